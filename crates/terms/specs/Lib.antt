@@ -1,0 +1,7 @@
+pub mod Refusals
+pub mod Numbers
+pub mod Ranges
+pub mod Kinds
+pub mod Steps
+pub mod Families
+pub mod Listing

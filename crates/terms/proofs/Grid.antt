@@ -3,10 +3,11 @@ use mathlib.Core.Path.{_≡_, refl, sym, _∙_, ap, subst}
 use mathlib.Core.List.{List, [], _∷_}
 use mathlib.Core.Logic.{⊎-elim}
 use mathlib.Core.Bool.{true, cond, _&&_}
-use Prim.Native.Nat.{ℕ, suc, _+_, _-_, _*_, _/_, _%_, _<_, _≤_}
+use Prim.Native.Nat.{ℕ, zero, suc, _+_, _-_, _*_, _/_, _%_, _<_, _≤_}
 use native.Mathlib.Omega.{arith}
 use native.Mathlib.Nat.{mul-mod-left, add-mod-right, div-add-mod', mod-lt, lt-of-mul-lt-mul-right, mul-le-mul-right, suc-mul}
 use lib.Dec.{ltb, leb, eqb}
+use lib.ListN.{length, getD}
 use Rattle.std.proofs.shelf.Tests.{le-leb, lt-leb, ltb-true, leb-true, eqb-true, and-parts, cases-lt}
 use Rattle.std.specs.Iters.{folded}
 use Rattle.terms.specs.declared.steps.StepBand.{StepBand}
@@ -139,6 +140,29 @@ piece (b ∷ bs) a s k t h =
     })
     (cases-lt k (b .from))
 
+-- no band begins below the first
+rising : (bs : List StepBand) (a s j : ℕ) (d : StepBand) → joins a s bs ≡ true → j < length bs → a ≤ getD bs j d .from
+rising [] a s j d t h = absurd (omega arith)
+rising (b ∷ bs) a s zero d t h = joint a s b bs t .up
+rising (b ∷ bs) a s (suc j) d t h =
+    let i = joint a s b bs t in
+    omega (arith, i .up, rising bs (b .from) (b .step) j d (i .rest) (omega arith))
+
+start : (bs : List StepBand) (a s j : ℕ) (d : StepBand) → joins a s bs ≡ true → j < length bs
+    → getD bs j d .from % after s bs (getD bs j d .from) ≡ 0
+start [] a s j d t h = absurd (omega arith)
+start (b ∷ bs) a s zero d t h =
+    let i = joint a s b bs t in
+    let n = piece bs (b .from) (b .step) (b .from) (i .rest) (omega arith) in
+    let at : n .lo ≡ b .from = omega (arith, n .from, n .low) in
+    let on = subst (λ (y : ℕ). y % after (b .step) bs (b .from) ≡ 0) at (n .lo-on) in
+    subst (λ (y : ℕ). b .from % y ≡ 0) (sym (past b bs s (b .from) (omega arith))) on
+start (b ∷ bs) a s (suc j) d t h =
+    let i = joint a s b bs t in
+    let k = getD bs j d .from in
+    let up = rising bs (b .from) (b .step) j d (i .rest) (omega arith) in
+    subst (λ (y : ℕ). k % y ≡ 0) (sym (past b bs s k up)) (start bs (b .from) (b .step) j d (i .rest) (omega arith))
+
 pub pieces : (bands : List StepBand) → joined bands ≡ true → (k : ℕ) → Piece (stepIn bands) 0 k
 pieces bands t k = piece bands 0 1 k t (omega arith)
 
@@ -206,6 +230,10 @@ module _ (bands : List StepBand) (t : joined bands ≡ true) where
 
   pub ceil-least : (x m : ℕ) → On m → x - x % stepIn bands x < m → (x - x % stepIn bands x) + stepIn bands x ≤ m
   ceil-least x m onm lt = omega (arith, floor-step x, next-least (x - x % stepIn bands x) m (floor-on x) onm lt)
+
+-- each band begins at a multiple of the step that holds there
+pub starts-on : (bands : List StepBand) (t : joined bands ≡ true) (j : ℕ) (d : StepBand) → j < length bands → On bands t (getD bands j d .from)
+starts-on bands t j d h = start bands 0 1 j d t h
 
 pub unbroken : (bands : List StepBand) → joined bands ≡ true → Unbroken bands
 unbroken bands t = record {

@@ -1,0 +1,4 @@
+pub mod Strikes
+pub mod Grids
+pub mod Runs
+pub mod Lists

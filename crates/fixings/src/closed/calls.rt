@@ -4,6 +4,7 @@ use crate::closed::ClosedFixing;
 use terms::Family;
 
 impl ClosedFixing {
+    /// The family whose price is fixed.
     pub fn family(&self) -> Family
         ensures { λ r. ⌜ r ≡ now (self .entry) .family ⌝ }
     {

@@ -1,0 +1,11 @@
+//! The fixing of the last trading day: samples of an index are taken, and from them and the close the final price is made.
+mod closed;
+mod figures;
+mod mean;
+mod open;
+#[cfg(test)]
+mod tests;
+
+pub use closed::ClosedFixing;
+pub use figures::worked_figures;
+pub use open::OpenFixing;

@@ -11,7 +11,8 @@ use Rattle.std.proofs.shelf.Lists.{length-push}
 use Rattle.std.proofs.shelf.Sums.{sumBy-push}
 use Rattle.terms.specs.declared.family.Family.{Family}
 use Rattle.terms.specs.declared.family.Family.the-variants.{HangSeng, ChinaEnterprises, MsciTaiwan}
-use Rattle.fixings.specs.Finals.{finalPrice, lowered, rounded, Greatest, WholePoints, Nearest, IsFinal}
+use Rattle.terms.specs.Extremes.{Greatest}
+use Rattle.fixings.specs.Finals.{finalPrice, lowered, rounded, WholePoints, Nearest, IsFinal}
 
 -- whole points stay below the prices' bound
 pub lowered-most : (t n : ℕ) → 0 < n → t ≤ 10000000 * n → t / (100 * n) * 100 ≤ 10000000

@@ -4,6 +4,7 @@ use mathlib.Core.List.{List}
 use Prim.Native.Nat.{ℕ, _+_, _*_, _/_, _%_, _<_, _≤_}
 use lib.ListN.{length}
 use Rattle.std.specs.shelf.Lists.{sum}
+use Rattle.terms.specs.Extremes.{Greatest}
 use Rattle.terms.specs.declared.family.Family.{Family}
 use Rattle.terms.specs.declared.family.Family.the-variants.{HangSeng, ChinaEnterprises, MsciTaiwan}
 
@@ -21,10 +22,6 @@ finalPrice ChinaEnterprises xs = lowered xs
 finalPrice MsciTaiwan xs = rounded xs
 
 -- The same without division.
-
--- k is the greatest number of which P holds
-abbrev pub Greatest : (ℕ → Type 0) → ℕ → Type 0
-Greatest P k = P k × ((m : ℕ) → P m → m ≤ k)
 
 -- p is whole points, and not above the mean
 pub record WholePoints (xs : List ℕ) (p : ℕ) : Type 0 where

@@ -6,13 +6,8 @@ use mathlib.Core.Logic.{_⊎_}
 use Prim.Native.Nat.{ℕ, _+_, _-_, _*_, _<_, _≤_}
 use lib.ListN.{length, getD}
 use Rattle.terms.specs.declared.steps.StepBand.{StepBand}
+use Rattle.terms.specs.Extremes.{Greatest, Least}
 use Rattle.terms.specs.Steps.{Listed}
-
-abbrev pub Greatest : (ℕ → Type 0) → ℕ → Type 0
-Greatest P k = P k × ((m : ℕ) → P m → m ≤ k)
-
-abbrev pub Least : (ℕ → Type 0) → ℕ → Type 0
-Least P k = P k × ((m : ℕ) → P m → k ≤ m)
 
 -- how far a strike, in points, lies from a level, in hundredths
 abbrev pub apart : ℕ → ℕ → ℕ

@@ -1,3 +1,4 @@
+pub mod Extremes
 pub mod Refusals
 pub mod Numbers
 pub mod Ranges

@@ -1,0 +1,4 @@
+mod Values
+mod Forms
+pub mod OneReading
+pub mod Back

@@ -1,0 +1,4 @@
+pub mod Words
+pub mod Digits
+pub mod Numbers
+pub mod Points

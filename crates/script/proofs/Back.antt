@@ -12,9 +12,8 @@ use Rattle.std.specs.declared.result.Result.the-variants.{Ok}
 use Rattle.std.proofs.shelf.Numerals.{Numerals, numerals-by-fold, tells-by-index}
 use Rattle.std.proofs.shelf.Decimals.{decimal-digit, decimal-some, digits-decimal, value-decimal}
 use Rattle.script.specs.Digits.{AllDigits, Numeral, further, value}
-use Rattle.script.specs.Numbers.{Decimal, cents, Writes, Hundredths}
-use Rattle.script.specs.Points.{pointsText, ReadsBack}
-use Rattle.script.proofs.OneReading.{one-reading}
+use Rattle.script.specs.Numbers.{Decimal, afterPoint, Writes, Hundredths}
+use Rattle.script.specs.Points.{pointsText}
 
 own : Numerals AllDigits value
 own = numerals-by-fold AllDigits tells-by-index (folded further) (search needs)
@@ -24,17 +23,17 @@ numeral n h = record { some = decimal-some n h; digits = digits-decimal own n h 
 
 two-digits : (a b : ℕ) → a < 10 → b < 10 → Numeral ((48 + a) ∷ (48 + b) ∷ [])
 two-digits a b h k = record {
-    some = omega arith;
-    digits = tells-by-index .more (48 + a) ((48 + b) ∷ []) (omega arith, omega arith)
-      (tells-by-index .more (48 + b) [] (omega arith, omega arith) (tells-by-index .empty))
-  }
+  some = omega arith;
+  digits = tells-by-index .more (48 + a) ((48 + b) ∷ []) (omega arith, omega arith)
+      (tells-by-index .more (48 + b) [] (omega arith, omega arith) (tells-by-index .empty));
+}
 
 two-written : (a b : ℕ) → a < 10 → b < 10 → decimal a ++ decimal b ≡ (48 + a) ∷ (48 + b) ∷ []
 two-written a b h k =
     ap (λ t. t ++ decimal b) (decimal-digit a h) ∙ ap (λ t. (48 + a) ∷ t) (decimal-digit b k)
 
-two-cents : (a b : ℕ) → a < 10 → b < 10 → cents (decimal a ++ decimal b) ≡ 10 * a + b
-two-cents a b h k = ap cents (two-written a b h k) ∙ omega arith
+two-worth : (a b : ℕ) → a < 10 → b < 10 → afterPoint (decimal a ++ decimal b) ≡ 10 * a + b
+two-worth a b h k = ap afterPoint (two-written a b h k) ∙ omega arith
 
 pub reads-points : (n : ℕ) → n < 2 ^ 32 → Hundredths (pointsText n) (Ok n)
 reads-points n h =
@@ -42,17 +41,13 @@ reads-points n h =
     let b = n % 10 in
     let one : a < 10 = omega arith in
     let two : b < 10 = omega arith in
-    let q : n / 100 < 2 ^ 64 = omega arith in
-    (inr (record {
-       whole = decimal (n / 100);
-       part = decimal a ++ decimal b;
-       form = record { joined = refl; front = numeral (n / 100) q; back = subst Numeral (sym (two-written a b one two)) (two-digits a b one two) };
-       short = omega (arith, ap length (two-written a b one two));
-       counts = omega (arith, value-decimal own (n / 100) q, two-cents a b one two)
-     }), h)
-
-pub reads-back : (n : ℕ) → n < 2 ^ 32 → ReadsBack (pointsText n) n
-reads-back n h = record {
-    reads = reads-points n h;
-    alone = λ r k. one-reading (pointsText n) r (Ok n) k (reads-points n h)
-  }
+    let q : n / 100 < 2 ^ 64 = omega arith in (
+      inr (record {
+        whole = decimal (n / 100);
+        part = decimal a ++ decimal b;
+        form = record { joined = refl; front = numeral (n / 100) q; back = subst Numeral (sym (two-written a b one two)) (two-digits a b one two) };
+        short = omega (arith, ap length (two-written a b one two));
+        counts = omega (arith, value-decimal own (n / 100) q, two-worth a b one two);
+      }),
+      h,
+    )

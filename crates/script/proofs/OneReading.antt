@@ -10,8 +10,25 @@ use Rattle.std.specs.declared.result.Result.the-variants.{Ok, Err}
 use Rattle.script.specs.declared.numbers.Misread.{Misread}
 use Rattle.script.specs.declared.numbers.Misread.the-variants.{NotANumber, TooFine, TooLarge}
 use Rattle.script.specs.Digits.{Numeral, value}
-use Rattle.script.specs.Numbers.{Decimal, cents, Writes, Formless, OverFine, Hundredths}
+use Rattle.script.specs.Numbers.{Number, Decimal, afterPoint, Writes, Formless, OverFine, Hundredths}
+use Rattle.script.specs.Only.{Only}
 use Rattle.script.proofs.Forms.{first-of, no-point, whole-is, part-is, sizes}
+
+-- one plain number
+pub one-number : (w : List ℕ) (r s : Result ℕ Misread) → Number w r → Number w s → r ≡ s
+one-number w (Ok m) (Ok n) h k = ap Ok (h .1 ∙ sym (k .1))
+one-number w (Ok m) (Err NotANumber) h k = absurd (k (h .0))
+one-number w (Ok m) (Err TooFine) h k = absurd k
+one-number w (Ok m) (Err TooLarge) h k = absurd (omega (arith, h .1, h .2, k .1))
+one-number w (Err NotANumber) (Ok n) h k = absurd (h (k .0))
+one-number w (Err NotANumber) (Err NotANumber) h k = refl
+one-number w (Err NotANumber) (Err TooFine) h k = absurd k
+one-number w (Err NotANumber) (Err TooLarge) h k = absurd (h (k .0))
+one-number w (Err TooFine) s h k = absurd h
+one-number w (Err TooLarge) (Ok n) h k = absurd (omega (arith, k .1, k .2, h .1))
+one-number w (Err TooLarge) (Err NotANumber) h k = absurd (k (h .0))
+one-number w (Err TooLarge) (Err TooFine) h k = absurd k
+one-number w (Err TooLarge) (Err TooLarge) h k = refl
 
 -- a numeral has no decimals
 apart : (w whole part : List ℕ) → Numeral w → Decimal w whole part → ⊥
@@ -34,7 +51,7 @@ writes-one w m n (inr a) (inl b) = absurd (apart w (a .whole) (a .part) (b .whol
 writes-one w m n (inr a) (inr b) =
     let wholes = same-whole w (a .whole) (a .part) (b .whole) (b .part) (a .form) (b .form) in
     let parts = same-part w (a .whole) (a .part) (b .whole) (b .part) (a .form) (b .form) in
-    a .counts ∙ ap (λ t. 100 * value t + cents (a .part)) wholes ∙ ap (λ t. 100 * value (b .whole) + cents t) parts ∙ sym (b .counts)
+    a .counts ∙ ap (λ t. 100 * value t + afterPoint (a .part)) wholes ∙ ap (λ t. 100 * value (b .whole) + afterPoint t) parts ∙ sym (b .counts)
 
 -- a text that writes a number has a form, and is not over fine
 formed : (w : List ℕ) (n : ℕ) → Writes w n → Formless w → ⊥
@@ -66,3 +83,9 @@ one-reading w (Err TooLarge) (Ok n) h k = absurd (omega (arith, writes-one w (h 
 one-reading w (Err TooLarge) (Err NotANumber) h k = absurd (formed w (h .0) (h .1) k)
 one-reading w (Err TooLarge) (Err TooFine) h k = absurd (not-over w (h .0) (h .1) k)
 one-reading w (Err TooLarge) (Err TooLarge) h k = refl
+
+pub only-number : (w : List ℕ) (r : Result ℕ Misread) → Number w r → Only (Number w) r
+only-number w r h = record { holds = h; alone = λ s k. one-number w s r k h }
+
+pub only-reading : (w : List ℕ) (r : Result ℕ Misread) → Hundredths w r → Only (Hundredths w) r
+only-reading w r h = record { holds = h; alone = λ s k. one-reading w s r k h }

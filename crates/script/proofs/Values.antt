@@ -8,7 +8,7 @@ use Rattle.std.proofs.shelf.Lists.{take-all}
 use Rattle.std.proofs.shelf.Sums.{folded-more}
 use Rattle.std.specs.Iters.{folded}
 use Rattle.script.specs.Digits.{further, value}
-use Rattle.script.specs.Numbers.{cents}
+use Rattle.script.specs.Numbers.{afterPoint}
 
 pub grows : (n : ℕ) (w : List ℕ) → n ≤ folded further n w
 grows n [] = omega arith
@@ -32,14 +32,14 @@ pub value-all : (w : List ℕ) (i : ℕ) → length w ≤ i → value (take i w)
 value-all w i h = ap value (take-all i w h)
 
 -- what one decimal is worth
-pub cents-one : (w : List ℕ) → length w ≡ 1 → cents w ≡ (getD w 0 0 - 48) * 10
-cents-one [] h = omega arith
-cents-one (a ∷ []) h = omega arith
-cents-one (a ∷ b ∷ w) h = omega arith
+pub one-decimal : (w : List ℕ) → length w ≡ 1 → afterPoint w ≡ (getD w 0 0 - 48) * 10
+one-decimal [] h = omega arith
+one-decimal (a ∷ []) h = omega arith
+one-decimal (a ∷ b ∷ w) h = omega arith
 
 -- what two decimals are worth
-pub cents-two : (w : List ℕ) → length w ≡ 2 → cents w ≡ (getD w 0 0 - 48) * 10 + (getD w 1 0 - 48)
-cents-two [] h = omega arith
-cents-two (a ∷ []) h = omega arith
-cents-two (a ∷ b ∷ []) h = omega arith
-cents-two (a ∷ b ∷ c ∷ w) h = omega arith
+pub two-decimals : (w : List ℕ) → length w ≡ 2 → afterPoint w ≡ (getD w 0 0 - 48) * 10 + (getD w 1 0 - 48)
+two-decimals [] h = omega arith
+two-decimals (a ∷ []) h = omega arith
+two-decimals (a ∷ b ∷ []) h = omega arith
+two-decimals (a ∷ b ∷ c ∷ w) h = omega arith

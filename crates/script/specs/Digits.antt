@@ -5,7 +5,7 @@ use lib.ListN.{length, getD}
 use Rattle.std.specs.Iters.{folded}
 use Rattle.std.specs.Text.{In}
 
--- Every byte is a digit, 0 to 9.
+-- Every byte is that of a digit, 48 for 0 to 57 for 9.
 abbrev pub AllDigits : List ℕ → Type 0
 AllDigits w = (k : ℕ) → k < length w → In 48 57 (getD w k 0)
 

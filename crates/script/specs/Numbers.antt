@@ -19,22 +19,22 @@ Fitting v (Err NotANumber) = ⊥
 Fitting v (Err TooFine) = ⊥
 Fitting v (Err TooLarge) = 2 ^ 32 ≤ v
 
--- A plain number is a numeral, and gives its value.
+-- A plain number is a numeral, and gives its value if that is below 2^32. Anything else is not a number.
 abbrev pub Number : List ℕ → Result ℕ Misread → Type 0
 Number w (Ok n) = Numeral w × (n ≡ value w) × (n < 2 ^ 32)
 Number w (Err NotANumber) = Numeral w → ⊥
 Number w (Err TooFine) = ⊥
 Number w (Err TooLarge) = Numeral w × (2 ^ 32 ≤ value w)
 
--- Points with decimals: a numeral, a point and a numeral.
+-- Points with decimals: a numeral, a point (46) and a numeral.
 pub record Decimal (w whole part : List ℕ) : Type 0 where
   pub joined : w ≡ whole ++ 46 ∷ part
   pub front : Numeral whole
   pub back : Numeral part
 
 -- The hundredths of one or two decimals: one decimal is worth tens.
-abbrev pub cents : List ℕ → ℕ
-cents part = cond (eqb (length part) 1) (10 * value part) (value part)
+abbrev pub afterPoint : List ℕ → ℕ
+afterPoint part = cond (eqb (length part) 1) (10 * value part) (value part)
 
 -- Whole points, with the number of hundredths in them.
 pub record WholePoints (w : List ℕ) (n : ℕ) : Type 0 where
@@ -47,7 +47,7 @@ pub record FinePoints (w : List ℕ) (n : ℕ) : Type 0 where
   pub part : List ℕ
   pub form : Decimal w whole part
   pub short : length part ≤ 2
-  pub counts : n ≡ 100 * value whole + cents part
+  pub counts : n ≡ 100 * value whole + afterPoint part
 
 -- Points with three decimals or more.
 pub record OverFine (w : List ℕ) : Type 0 where
@@ -65,7 +65,8 @@ pub record Formless (w : List ℕ) : Type 0 where
   pub plain : Numeral w → ⊥
   pub decimal : (whole part : List ℕ) → Decimal w whole part → ⊥
 
--- Index points with at most two decimals give their hundredths.
+-- Index points with at most two decimals give their hundredths if those are below 2^32. With more decimals the text is
+-- too fine, however large, and a text of neither form is not a number.
 abbrev pub Hundredths : List ℕ → Result ℕ Misread → Type 0
 Hundredths w (Ok n) = Writes w n × (n < 2 ^ 32)
 Hundredths w (Err NotANumber) = Formless w

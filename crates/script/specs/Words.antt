@@ -7,7 +7,7 @@ use lib.Dec.{eqb}
 use lib.ListN.{length, getD}
 use Rattle.script.specs.declared.words.Span.{Span}
 
--- A blank separates words: a space, a tab or a carriage return.
+-- A blank separates words: a space (32), a tab (9) or a carriage return (13).
 abbrev pub blank : ℕ → Bool
 blank c = eqb c 32 || (eqb c 9 || eqb c 13)
 
@@ -22,7 +22,7 @@ pub record WordAt (line : List ℕ) (from : ℕ) (s : Span) : Type 0 where
   pub stops : s .end < length line → blank (getD line (s .end) 0) ≡ true
   pub none : s .start ≡ s .end → s .start ≡ length line
 
--- The end of the line that goes on at a place: the first newline at or after it, or the text's length.
+-- The end of the line that goes on at a place: the first newline (10) at or after it, or the text's length.
 pub record LineEnd (text : List ℕ) (from r : ℕ) : Type 0 where
   pub after : min from (length text) ≤ r
   pub within : r ≤ length text

@@ -6,8 +6,11 @@ ghost use Rattle.script.specs.Numbers.{Fitting};
 use crate::numbers::Misread;
 
 pub(crate) const NOUGHT: u8 = b'0';
+
 const NINE: u8 = b'9';
-const LARGEST: u64 = 0xffff_ffff;
+
+/// The largest number that is read, 2^32 - 1.
+pub(crate) const LARGEST: u64 = 0xffff_ffff;
 
 /// Whether the word is a numeral: one or more decimal digits and nothing else.
 pub(crate) fn is_numeral(word: &[u8]) -> bool

@@ -1,16 +1,18 @@
-ghost use mathlib.Core.Bool.{cond};
 ghost use mathlib.Core.Path.{_≡_};
 ghost use Prim.Native.Nat.{ℕ, _+_, _*_, _<_, _≤_};
 ghost use lib.ListN.{length, getD};
 ghost use Rattle.script.specs.Digits.{Numeral, value};
-ghost use Rattle.script.specs.Numbers.{Number, Hundredths, Fitting, cents};
+ghost use Rattle.script.specs.Numbers.{Number, Hundredths, Fitting, afterPoint};
+ghost use Rattle.script.specs.Only.{Only};
+use crate::digits::LARGEST;
 use crate::digits::NOUGHT;
 use crate::digits::is_numeral;
 use crate::digits::read;
 
 const POINT: u8 = b'.';
+
+/// How many decimals points may have.
 const MOST_DECIMALS: usize = 2;
-const LARGEST: u64 = 0xffff_ffff;
 
 /// Why a word gives no number.
 #[derive(Clone, Copy, PartialEq, Eq, Debug)]
@@ -23,9 +25,9 @@ pub enum Misread {
     TooLarge,
 }
 
-/// A plain number: one or more decimal digits and nothing else.
+/// A plain number: one or more decimal digits and nothing else. Leading zeros are fine.
 pub fn number(word: &[u8]) -> Result<u32, Misread>
-    ensures { λ r. ⌜ Number (now (word .entry)) r ⌝ }
+    ensures { λ r. ⌜ Only (Number (now (word .entry))) r ⌝ }
 {
     if !is_numeral(word) {
         return Err(Misread::NotANumber);
@@ -33,9 +35,10 @@ pub fn number(word: &[u8]) -> Result<u32, Misread>
     read(word)
 }
 
-/// Index points with at most two decimals, in hundredths: `812.3` gives 81230.
+/// Index points with at most two decimals, in hundredths: `20126` gives 2012600, `812.3` gives 81230.
+/// More than two decimals are `TooFine`, however large the number.
 pub fn hundredths(word: &[u8]) -> Result<u32, Misread>
-    ensures { λ r. ⌜ Hundredths (now (word .entry)) r ⌝ }
+    ensures { λ r. ⌜ Only (Hundredths (now (word .entry))) r ⌝ }
 {
     let point = point_place(word);
     let whole = &word[0..point];
@@ -73,7 +76,7 @@ fn point_place(word: &[u8]) -> usize
 fn decimals(part: &[u8]) -> u32
     requires form { ⌜ Numeral (now part) ⌝ }
     requires short { ⌜ length (now part) ≤ 2 ⌝ }
-    ensures value { λ r. ⌜ r ≡ cents (now (part .entry)) ⌝ }
+    ensures worth { λ r. ⌜ r ≡ afterPoint (now (part .entry)) ⌝ }
     ensures bound { λ r. ⌜ r < 100 ⌝ }
 {
     let tens = u32::from(part[0] - NOUGHT);

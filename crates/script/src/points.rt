@@ -1,8 +1,11 @@
 ghost use mathlib.Core.Path.{_≡_};
 ghost use Rattle.std.specs.declared.option.Option.the-variants.{Some};
+ghost use Rattle.std.specs.declared.result.Result.the-variants.{Ok};
 ghost use Rattle.std.specs.Of.String.{string-bytes};
 ghost use Rattle.std.specs.Vec.{made};
-ghost use Rattle.script.specs.Points.{pointsText, ReadsBack};
+ghost use Rattle.script.specs.Numbers.{Hundredths};
+ghost use Rattle.script.specs.Only.{Only};
+ghost use Rattle.script.specs.Points.{pointsText};
 use std::alloc::AllocError;
 use std::alloc::Global;
 use std::fmt;
@@ -25,7 +28,7 @@ pub impl fmt::Display for Points as PointsDisplay {
 /// The price's text. Read as hundredths, it gives that price again.
 pub fn written(heap: Global, p: Points) -> Result<String, AllocError>
     ensures text { λ r. ⌜ made r (λ s. string-bytes s ≡ pointsText (p .0)) ⌝ }
-    ensures back { λ r. ⌜ made r (λ s. ReadsBack (string-bytes s) (p .0)) ⌝ }
+    ensures back { λ r. ⌜ made r (λ s. Only (Hundredths (string-bytes s)) (Ok (p .0))) ⌝ }
 {
     p.to_string(heap)
 }

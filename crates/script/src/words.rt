@@ -2,11 +2,15 @@ ghost use mathlib.Core.Bool.{true, false};
 ghost use mathlib.Core.Path.{_≡_};
 ghost use Prim.Native.Nat.{ℕ, _<_, _≤_};
 ghost use lib.ListN.{length, getD};
+ghost use Rattle.script.specs.Only.{Only};
 ghost use Rattle.script.specs.Words.{blank, WordAt, LineEnd};
 
 const SPACE: u8 = b' ';
+
 const TAB: u8 = b'\t';
+
 const RETURN: u8 = b'\r';
+
 const NEWLINE: u8 = b'\n';
 
 /// Where a word stands in its line: from `start` to before `end`.
@@ -18,7 +22,7 @@ pub struct Span {
 
 /// The next word of the line at or after `from`. Where there is none, `start` and `end` are the line's length.
 pub fn word_at(line: &[u8], from: usize) -> Span
-    ensures { λ r. ⌜ WordAt (now (line .entry)) from r ⌝ }
+    ensures { λ r. ⌜ Only (WordAt (now (line .entry)) from) r ⌝ }
 {
     let start = past_blanks(line, from.min(line.len()));
     let end = past_word(line, start);
@@ -27,7 +31,7 @@ pub fn word_at(line: &[u8], from: usize) -> Span
 
 /// The place of the first newline at or after `from`, or the text's length where there is none.
 pub fn line_end(text: &[u8], from: usize) -> usize
-    ensures { λ r. ⌜ LineEnd (now (text .entry)) from r ⌝ }
+    ensures { λ r. ⌜ Only (LineEnd (now (text .entry)) from) r ⌝ }
 {
     let mut i = from.min(text.len());
     while i < text.len() && text[i] != NEWLINE {

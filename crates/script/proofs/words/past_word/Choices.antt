@@ -1,0 +1,15 @@
+use mathlib.Core.Path.{_≡_}
+use mathlib.Core.Bool.{false}
+use Prim.Native.Nat.{ℕ, _-_, _<_, _≤_}
+use lib.ListN.{length, getD}
+use Rattle.script.specs.Words.{blank}
+use Rattle.script.proofs.words.past_word.Given as given
+
+abbrev pub Inv-loop-i : given.InvT-loop-i
+Inv-loop-i l =
+    (l .from ≤ l .i)
+    × (l .i ≤ length (l .line))
+    × ((k : ℕ) → l .from ≤ k → k < l .i → blank (getD (l .line) k 0) ≡ false)
+
+abbrev pub μ-loop-i : given.MeasureT-loop-i
+μ-loop-i l = length (l .line) - l .i

@@ -1,0 +1,5 @@
+pub mod Only
+pub mod Words
+pub mod Digits
+pub mod Numbers
+pub mod Points

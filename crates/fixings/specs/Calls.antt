@@ -3,7 +3,7 @@ use mathlib.Core.Path.{_≡_}
 use mathlib.Core.Logic.{_⊎_}
 use mathlib.Core.List.{List, [], _∷_, _++_}
 use Prim.Native.Nat.{ℕ, _<_}
-use lib.ListN.{length, take}
+use lib.ListN.{length, take, getD}
 use Rattle.std.specs.declared.result.Result.{Result}
 use Rattle.std.specs.declared.result.Result.the-variants.{Ok, Err}
 use Rattle.terms.specs.declared.refusal.Reason.the-variants.{OutOfRange, WrongState}
@@ -69,3 +69,29 @@ abbrev pub Closes : OpenFixing → ℕ → Result ClosedFixing (Refusal × OpenF
 Closes o v (Ok g) = Closed o v g
 Closes o v (Err (e, back)) =
     (back ≡ o) × (((PriceRange v → ⊥) × (e ≡ plain OutOfRange)) ⊎ (PriceRange v × Lacking o × (e ≡ plain WrongState)))
+
+-- every sample is a price
+abbrev pub AllPrices : List ℕ → Type 0
+AllPrices samples = (k : ℕ) → k < length samples → PriceRange (getD samples k 0)
+
+-- all that a whole fixing is made of is in range
+pub record FixRange (family : ℕ) (samples : List ℕ) (close : ℕ) : Type 0 where
+  pub begins : BeginRange family (length samples)
+  pub prices : AllPrices samples
+  pub closes : PriceRange close
+
+-- the family's final price of these samples and this close
+pub record Fixed (family : ℕ) (samples : List ℕ) (close : ℕ) (g : ClosedFixing) : Type 0 where
+  pub range : FixRange family samples close
+  pub has-family : familyNumber (g .family) ≡ family
+  pub final : g .price ≡ finalPrice (g .family) (samples ++ close ∷ [])
+
+-- A whole fixing, or 4 where something is out of range.
+abbrev pub Fixes : ℕ → List ℕ → ℕ → Result ClosedFixing Refusal → Type 0
+Fixes family samples close (Ok g) = Fixed family samples close g
+Fixes family samples close (Err e) = (FixRange family samples close → ⊥) × (e ≡ plain OutOfRange)
+
+-- A fixing that has taken all of the samples, or 4 where one of them is no price.
+abbrev pub TakesAll : OpenFixing → List ℕ → Result OpenFixing Refusal → Type 0
+TakesAll o samples (Ok n) = (n .family ≡ o .family) × (n .expected ≡ o .expected) × (taken n ≡ samples) × AllPrices samples
+TakesAll o samples (Err e) = (AllPrices samples → ⊥) × (e ≡ plain OutOfRange)

@@ -5,7 +5,9 @@ mod mean;
 mod open;
 #[cfg(test)]
 mod tests;
+mod whole;
 
 pub use closed::ClosedFixing;
 pub use figures::worked_figures;
 pub use open::OpenFixing;
+pub use whole::fix;

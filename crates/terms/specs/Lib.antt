@@ -5,4 +5,3 @@ pub mod Ranges
 pub mod Kinds
 pub mod Steps
 pub mod Families
-pub mod Listing

@@ -110,12 +110,6 @@ impl Family {
         }
     }
 
-    pub fn number(self) -> u8
-        ensures { λ r. ⌜ r ≡ familyNumber self ⌝ }
-    {
-        self as u8
-    }
-
     /// The cents by which one hundredth of a point moves one unit.
     pub fn cents_per_hundredth(self) -> u32
         ensures { λ r. ⌜ r ≡ centsOf self ⌝ }

@@ -44,12 +44,6 @@ impl SeriesKind {
             _ => Err(Refusal::plain(Reason::OutOfRange)),
         }
     }
-
-    pub fn number(self) -> u8
-        ensures { λ r. ⌜ r ≡ kindNumber self ⌝ }
-    {
-        self as u8
-    }
 }
 
 impl AccountKind {
@@ -64,12 +58,6 @@ impl AccountKind {
             _ => Err(Refusal::plain(Reason::OutOfRange)),
         }
     }
-
-    pub fn number(self) -> u8
-        ensures { λ r. ⌜ r ≡ accountKindNumber self ⌝ }
-    {
-        self as u8
-    }
 }
 
 impl Size {
@@ -82,12 +70,6 @@ impl Size {
             1 => Ok(Size::Mini),
             _ => Err(Refusal::plain(Reason::OutOfRange)),
         }
-    }
-
-    pub fn number(self) -> u8
-        ensures { λ r. ⌜ r ≡ sizeNumber self ⌝ }
-    {
-        self as u8
     }
 
     /// How many units one contract of this size is.

@@ -1,16 +1,12 @@
 //! What a contract is: families, kinds, series, prices and steps, and why a call is refused.
-mod delta;
 mod family;
 mod kinds;
-mod listing;
 mod month;
 mod price;
 mod refusal;
-mod series;
 mod steps;
 mod values;
 
-pub use delta::Delta;
 pub use family::Family;
 pub use kinds::AccountKind;
 pub use kinds::SeriesKind;
@@ -20,6 +16,5 @@ pub use price::Price;
 pub use refusal::NO_ACCOUNT;
 pub use refusal::Reason;
 pub use refusal::Refusal;
-pub use series::Series;
 pub use steps::StepBand;
 pub use steps::StepTable;

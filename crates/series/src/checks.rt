@@ -2,37 +2,34 @@ ghost use mathlib.Core.Path.{_≡_};
 ghost use Prim.Native.Nat.{_≤_};
 ghost use lib.IntN.{pos, negsuc};
 ghost use lib.Signed.{_≤ℤ_};
-ghost use Rattle.terms.specs.Listing.{offers, sizeIn, takesStrike, SeriesChecked, DeltaChecked, AnyDelta};
+ghost use Rattle.series.specs.Listing.{offers, sizeIn, takesStrike, SeriesChecked, DeltaChecked, AnyDelta};
 use crate::delta::Delta;
-use crate::family::Family;
-use crate::kinds::SeriesKind;
-use crate::kinds::Size;
-use crate::month::Month;
-use crate::refusal::Reason;
-use crate::refusal::Refusal;
 use crate::series::Series;
+use terms::Family;
+use terms::Month;
+use terms::Reason;
+use terms::Refusal;
+use terms::SeriesKind;
+use terms::Size;
 
-impl Family {
-    /// Whether the family has series of this kind.
-    pub fn offers(self, kind: SeriesKind) -> bool
-        ensures { λ r. ⌜ r ≡ offers self kind ⌝ }
-    {
-        match kind {
-            SeriesKind::Future | SeriesKind::Call | SeriesKind::Put => true,
-            SeriesKind::CallOnFuture | SeriesKind::PutOnFuture => self.has_options_on_future(),
-        }
+/// Whether the family has series of this kind.
+pub fn offers(family: Family, kind: SeriesKind) -> bool
+    ensures { λ r. ⌜ r ≡ offers family kind ⌝ }
+{
+    match kind {
+        SeriesKind::Future | SeriesKind::Call | SeriesKind::Put => true,
+        SeriesKind::CallOnFuture | SeriesKind::PutOnFuture => family.has_options_on_future(),
     }
+}
 
-    /// Whether the family's series of this kind have contracts of this size.
-    pub fn has_size(self, kind: SeriesKind, size: Size) -> bool
-        ensures { λ r. ⌜ r ≡ sizeIn self kind size ⌝ }
-    {
-        match (size, kind) {
-            (Size::Full, _) => true,
-            (Size::Mini, SeriesKind::Future | SeriesKind::Call | SeriesKind::Put) =>
-                self.has_minis(),
-            (Size::Mini, SeriesKind::CallOnFuture | SeriesKind::PutOnFuture) => false,
-        }
+/// Whether the family's series of this kind have contracts of this size.
+pub fn has_size(family: Family, kind: SeriesKind, size: Size) -> bool
+    ensures { λ r. ⌜ r ≡ sizeIn family kind size ⌝ }
+{
+    match (size, kind) {
+        (Size::Full, _) => true,
+        (Size::Mini, SeriesKind::Future | SeriesKind::Call | SeriesKind::Put) => family.has_minis(),
+        (Size::Mini, SeriesKind::CallOnFuture | SeriesKind::PutOnFuture) => false,
     }
 }
 
@@ -53,7 +50,7 @@ impl Series {
     {
         let kind = SeriesKind::numbered(kind)?;
         let month = Month::numbered(month)?;
-        if !family.offers(kind) || !takes_strike(kind, strike) {
+        if !offers(family, kind) || !takes_strike(kind, strike) {
             return Err(Refusal::plain(Reason::OutOfRange));
         }
         let steps = family.steps();

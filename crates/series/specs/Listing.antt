@@ -8,20 +8,20 @@ use lib.IntN.{ℤ, pos, negsuc}
 use lib.Signed.{_≤ℤ_}
 use Rattle.std.specs.declared.result.Result.{Result}
 use Rattle.std.specs.declared.result.Result.the-variants.{Ok, Err}
 use Rattle.terms.specs.declared.family.Family.{Family}
 use Rattle.terms.specs.declared.kinds.SeriesKind.{SeriesKind}
 use Rattle.terms.specs.declared.kinds.SeriesKind.the-variants.{Future, Call, Put, CallOnFuture, PutOnFuture}
 use Rattle.terms.specs.declared.kinds.Size.{Size}
 use Rattle.terms.specs.declared.kinds.Size.the-variants.{Full, Mini}
-use Rattle.terms.specs.declared.series.Series.{Series}
-use Rattle.terms.specs.declared.delta.Delta.{Delta}
+use Rattle.series.specs.declared.series.Series.{Series}
+use Rattle.series.specs.declared.delta.Delta.{Delta}
 use Rattle.terms.specs.declared.refusal.Reason.the-variants.{OutOfRange, OffStep}
 use Rattle.terms.specs.declared.refusal.Refusal.{Refusal}
 use Rattle.terms.specs.Refusals.{plain}
 use Rattle.terms.specs.Kinds.{kindNumber}
 use Rattle.terms.specs.Families.{minisIn, futureOptionsIn, bandsOf}
 use Rattle.terms.specs.Ranges.{MonthRange}
 use Rattle.terms.specs.Steps.{stepIn}
 
 -- every family has futures, calls and puts; some have options on the future too
 abbrev pub offers : Family → SeriesKind → Bool

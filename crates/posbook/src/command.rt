@@ -1,0 +1,95 @@
+ghost use Rattle.std.specs.declared.result.Result.the-variants.{Ok};
+ghost use Rattle.std.specs.Vec.{made};
+ghost use Rattle.script.specs.Numbers.{Number, Hundredths};
+use crate::unreadable::Field;
+use crate::unreadable::Unreadable;
+use crate::unreadable::UnreadableFromRefused;
+use crate::words::Words;
+use script::Misread;
+use script::hundredths;
+use script::number;
+use std::alloc::Global;
+
+/// A command of the script.
+#[derive(Drop)]
+pub enum Command {
+    /// A whole fixing: its family, its samples and its close.
+    Fixing(u8, Vec<u32>, u32),
+    /// The strike list of a family around a level.
+    Strikes(u8, u32),
+}
+
+/// The command that a line of text holds.
+pub fn read_command(heap: Global, line: &[u8]) -> Result<Command, Unreadable> {
+    let mut words = Words::new(line);
+    match words.next() {
+        Some(b"fixing") => read_fixing(heap, words),
+        Some(b"strikes") => read_strikes(words),
+        _ => Err(Unreadable::NoCommand),
+    }
+}
+
+fn read_fixing(heap: Global, words: Words) -> Result<Command, Unreadable> {
+    let mut words = words;
+    let family = read_family(wanted(words.next(), Field::Family)?)?;
+    let mut samples = Vec::new(heap);
+    let mut close = read_sample(wanted(words.next(), Field::Close)?, words)?;
+    while let Some(word) = words.next() {
+        samples.push(close)?;
+        close = read_sample(word, words)?;
+    }
+    Ok(Command::Fixing(family, samples, close))
+}
+
+fn read_strikes(words: Words) -> Result<Command, Unreadable> {
+    let mut words = words;
+    let family = read_family(wanted(words.next(), Field::Family)?)?;
+    let level = read_points(wanted(words.next(), Field::Level)?, Field::Level)?;
+    if words.next().is_some() {
+        return Err(Unreadable::TooManyWords);
+    }
+    Ok(Command::Strikes(family, level))
+}
+
+/// A sample, or the close where no word follows.
+fn read_sample(word: &[u8], after: Words) -> Result<u32, Unreadable>
+    ensures { λ r. ⌜ made r (λ n. Hundredths (now (word .entry)) (Ok n)) ⌝ }
+{
+    let mut after = after;
+    match hundredths(word) {
+        Ok(points) => Ok(points),
+        Err(misread) => {
+            let field = if after.next().is_some() {
+                Field::Sample
+            } else {
+                Field::Close
+            };
+            Err(Unreadable::Misread(field, misread))
+        }
+    }
+}
+
+fn wanted(word: Option<&[u8]>, field: Field) -> Result<&[u8], Unreadable> {
+    word.ok_or(Unreadable::Missing(field))
+}
+
+/// A family's number, which fits a byte.
+fn read_family(word: &[u8]) -> Result<u8, Unreadable>
+    ensures { λ r. ⌜ made r (λ n. Number (now (word .entry)) (Ok n)) ⌝ }
+{
+    match number(word) {
+        Ok(n) if n <= 255 => Ok(n as u8),
+        Ok(_) => Err(Unreadable::Misread(Field::Family, Misread::TooLarge)),
+        Err(misread) => Err(Unreadable::Misread(Field::Family, misread)),
+    }
+}
+
+/// Index points, in hundredths.
+fn read_points(word: &[u8], field: Field) -> Result<u32, Unreadable>
+    ensures { λ r. ⌜ made r (λ n. Hundredths (now (word .entry)) (Ok n)) ⌝ }
+{
+    match hundredths(word) {
+        Ok(points) => Ok(points),
+        Err(misread) => Err(Unreadable::Misread(field, misread)),
+    }
+}

@@ -13,14 +13,21 @@ use std::alloc::Global;
 /// A command of the script.
 #[derive(Drop)]
 pub enum Command {
-    /// A whole fixing: its family, its samples and its close.
-    Fixing(u8, Vec<u32>, u32),
-    /// The strike list of a family around a level.
-    Strikes(u8, u32),
+    /// A whole fixing.
+    Fixing {
+        family: u8,
+        samples: Vec<u32>,
+        close: u32,
+    },
+    /// The strike list around a level.
+    Strikes {
+        family: u8,
+        level: u32,
+    },
 }
 
 /// The command that a line of text holds.
-pub fn read_command(heap: Global, line: &[u8]) -> Result<Command, Unreadable> {
+pub(crate) fn read_command(heap: Global, line: &[u8]) -> Result<Command, Unreadable> {
     let mut words = Words::new(line);
     match words.next() {
         Some(b"fixing") => read_fixing(heap, words),
@@ -38,7 +45,11 @@ fn read_fixing(heap: Global, words: Words) -> Result<Command, Unreadable> {
         samples.push(close)?;
         close = read_sample(word, words)?;
     }
-    Ok(Command::Fixing(family, samples, close))
+    Ok(Command::Fixing {
+        family,
+        samples,
+        close,
+    })
 }
 
 fn read_strikes(words: Words) -> Result<Command, Unreadable> {
@@ -48,7 +59,7 @@ fn read_strikes(words: Words) -> Result<Command, Unreadable> {
     if words.next().is_some() {
         return Err(Unreadable::TooManyWords);
     }
-    Ok(Command::Strikes(family, level))
+    Ok(Command::Strikes { family, level })
 }
 
 /// A sample, or the close where no word follows.

@@ -45,7 +45,7 @@ impl fmt::Display for Totals as TotalsDisplay {
 }
 
 /// Answers every line of the script, and tells at the end how the commands went.
-pub fn run<W: Write>(heap: Global, script: &[u8], out: &mut W) -> io::Result<()> {
+pub(crate) fn run<W: Write>(heap: Global, script: &[u8], out: &mut W) -> io::Result<()> {
     let mut totals = Totals {
         accepted: 0,
         refused: 0,
@@ -113,7 +113,11 @@ fn read_line(heap: Global, line: &[u8]) -> Result<Command, Unreadable> {
 /// Carries a command out, and prints its answer unless it is refused.
 fn obey<W: Write>(number: u64, command: &Command, out: &mut W) -> io::Result<Result<(), Refusal>> {
     match command {
-        Command::Fixing(family, samples, close) => match fixings::fix(*family, samples, *close) {
+        Command::Fixing {
+            family,
+            samples,
+            close,
+        } => match fixings::fix(*family, samples, *close) {
             Ok(closed) => {
                 let (_, price) = closed.spend();
                 let points = Points(price);
@@ -122,7 +126,7 @@ fn obey<W: Write>(number: u64, command: &Command, out: &mut W) -> io::Result<Res
             }
             Err(refusal) => Ok(Err(refusal)),
         },
-        Command::Strikes(family, level) => list_strikes(number, *family, *level, out),
+        Command::Strikes { family, level } => list_strikes(number, *family, *level, out),
     }
 }
 

@@ -13,12 +13,12 @@ pub struct Words<'a> {
 }
 
 impl<'a> Words<'a> {
-    pub fn new(line: &'a [u8]) -> Words<'a> {
+    pub(crate) fn new(line: &'a [u8]) -> Words<'a> {
         Words { line, at: 0 }
     }
 
     /// The next word, or `None` behind the last.
-    pub fn next(&mut self) -> Option<&'a [u8]>
+    pub(crate) fn next(&mut self) -> Option<&'a [u8]>
         ensures same { λ _. ⌜ now (self .exit) .line ≡ now (self .entry) .line ⌝ }
         ensures within { λ _. ⌜ now (self .exit) .at ≤ length (now (now (self .entry) .line)) ⌝ }
         ensures on { λ r. ⌜ Cases r (Unit {0}) (λ _. now (self .entry) .at < now (self .exit) .at) ⌝ }

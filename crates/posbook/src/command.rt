@@ -1,5 +1,9 @@
 ghost use Rattle.std.specs.declared.result.Result.the-variants.{Ok};
+ghost use mathlib.Core.Path.{_≡_};
+ghost use lib.Chars.{codes};
+ghost use Rattle.std.specs.Orderings.{Decides};
 ghost use Rattle.std.specs.Vec.{made};
+ghost use Rattle.posbook.specs.Commands.{Behind, Says};
 ghost use Rattle.script.specs.Numbers.{Number, Hundredths};
 use crate::unreadable::Field;
 use crate::unreadable::Unreadable;
@@ -27,20 +31,41 @@ pub enum Command {
 }
 
 /// The command that a line of text holds.
-pub(crate) fn read_command(heap: Global, line: &[u8]) -> Result<Command, Unreadable> {
+pub(crate) fn read_command(heap: Global, line: &[u8]) -> Result<Command, Unreadable>
+    ensures { λ r. ⌜ made r (Says (now (line .entry))) ⌝ }
+{
     let mut words = Words::new(line);
-    match words.next() {
-        Some(b"fixing") => read_fixing(heap, words),
-        Some(b"strikes") => read_strikes(words),
-        _ => Err(Unreadable::NoCommand),
+    let Some(name) = words.next() else {
+        return Err(Unreadable::NoCommand);
+    };
+    if is_named(name, "fixing") {
+        return read_fixing(heap, words);
     }
+    if is_named(name, "strikes") {
+        return read_strikes(words);
+    }
+    Err(Unreadable::NoCommand)
 }
 
-fn read_fixing(heap: Global, words: Words) -> Result<Command, Unreadable> {
+fn is_named(word: &[u8], name: &str) -> bool
+    ensures { λ r. ⌜ Decides r (now (word .entry) ≡ now (name .entry)) ⌝ }
+{
+    word == name.as_bytes()
+}
+
+fn read_fixing(heap: Global, words: Words) -> Result<Command, Unreadable>
+    ensures { λ r. ⌜ made r (Behind (now (words .entry .line)) (words .entry .at) (codes "fixing")) ⌝ }
+{
     let mut words = words;
-    let family = read_family(wanted(words.next(), Field::Family)?)?;
+    let Some(first) = words.next() else {
+        return Err(Unreadable::Missing(Field::Family));
+    };
+    let family = read_family(first)?;
+    let Some(second) = words.next() else {
+        return Err(Unreadable::Missing(Field::Close));
+    };
     let mut samples = Vec::new(heap);
-    let mut close = read_sample(wanted(words.next(), Field::Close)?, words)?;
+    let mut close = read_sample(second, words)?;
     while let Some(word) = words.next() {
         samples.push(close)?;
         close = read_sample(word, words)?;
@@ -52,11 +77,19 @@ fn read_fixing(heap: Global, words: Words) -> Result<Command, Unreadable> {
     })
 }
 
-fn read_strikes(words: Words) -> Result<Command, Unreadable> {
+fn read_strikes(words: Words) -> Result<Command, Unreadable>
+    ensures { λ r. ⌜ made r (Behind (now (words .entry .line)) (words .entry .at) (codes "strikes")) ⌝ }
+{
     let mut words = words;
-    let family = read_family(wanted(words.next(), Field::Family)?)?;
-    let level = read_points(wanted(words.next(), Field::Level)?, Field::Level)?;
-    if words.next().is_some() {
+    let Some(first) = words.next() else {
+        return Err(Unreadable::Missing(Field::Family));
+    };
+    let family = read_family(first)?;
+    let Some(second) = words.next() else {
+        return Err(Unreadable::Missing(Field::Level));
+    };
+    let level = read_points(second, Field::Level)?;
+    if let Some(_) = words.next() {
         return Err(Unreadable::TooManyWords);
     }
     Ok(Command::Strikes { family, level })
@@ -78,10 +111,6 @@ fn read_sample(word: &[u8], after: Words) -> Result<u32, Unreadable>
             Err(Unreadable::Misread(field, misread))
         }
     }
-}
-
-fn wanted(word: Option<&[u8]>, field: Field) -> Result<&[u8], Unreadable> {
-    word.ok_or(Unreadable::Missing(field))
 }
 
 /// A family's number, which fits a byte.

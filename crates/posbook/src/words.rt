@@ -1,7 +1,8 @@
 ghost use mathlib.Core.Path.{_≡_};
 ghost use Prim.Native.Nat.{_<_, _≤_};
 ghost use lib.ListN.{length};
-ghost use Rattle.std.specs.Options.{Cases};
+ghost use Rattle.std.specs.Options.{Cases, mapped};
+ghost use Rattle.posbook.specs.Lines.{Next};
 use script::Span;
 use script::word_at;
 
@@ -13,7 +14,10 @@ pub struct Words<'a> {
 }
 
 impl<'a> Words<'a> {
-    pub(crate) fn new(line: &'a [u8]) -> Words<'a> {
+    pub(crate) fn new(line: &'a [u8]) -> Words<'a>
+        ensures line { λ r. ⌜ now (r .line) ≡ now (line .entry) ⌝ }
+        ensures at { λ r. ⌜ r .at ≡ 0 ⌝ }
+    {
         Words { line, at: 0 }
     }
 
@@ -22,6 +26,7 @@ impl<'a> Words<'a> {
         ensures same { λ _. ⌜ now (self .exit) .line ≡ now (self .entry) .line ⌝ }
         ensures within { λ _. ⌜ now (self .exit) .at ≤ length (now (now (self .entry) .line)) ⌝ }
         ensures on { λ r. ⌜ Cases r (Unit {0}) (λ _. now (self .entry) .at < now (self .exit) .at) ⌝ }
+        ensures word { λ r. ⌜ Next (now (now (self .entry) .line)) (now (self .entry) .at) (mapped now r) (now (self .exit) .at) ⌝ }
     {
         let Span { start, end } = word_at(self.line, self.at);
         self.at = end;

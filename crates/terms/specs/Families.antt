@@ -43,14 +43,14 @@ abbrev pub band : ℕ → ℕ → StepBand
 band from step = record { from = from; step = step }
 
 -- 50; 100 from 5,000; 200 from 20,000. A table has four bands, so the last stands twice.
-abbrev pub hang-seng-bands : List StepBand
-hang-seng-bands = band 0 50 ∷ band 5000 100 ∷ band 20000 200 ∷ band 20000 200 ∷ []
+abbrev pub index-bands : List StepBand
+index-bands = band 0 50 ∷ band 5000 100 ∷ band 20000 200 ∷ band 20000 200 ∷ []
 
 -- 1; 2 from 200; 5 from 500; 10 from 1,000
 abbrev pub taiwan-bands : List StepBand
 taiwan-bands = band 0 1 ∷ band 200 2 ∷ band 500 5 ∷ band 1000 10 ∷ []
 
 abbrev pub bandsOf : Family → List StepBand
-bandsOf HangSeng = hang-seng-bands
-bandsOf ChinaEnterprises = hang-seng-bands
+bandsOf HangSeng = index-bands
+bandsOf ChinaEnterprises = index-bands
 bandsOf MsciTaiwan = taiwan-bands

@@ -28,6 +28,39 @@ struct FamilyTerms {
     steps: StepTable,
 }
 
+/// The steps of families 0 and 1: 50; 100 from 5,000; 200 from 20,000.
+const INDEX_STEPS: StepTable = StepTable {
+    bands: [
+        StepBand { from: 0, step: 50 },
+        StepBand {
+            from: 5_000,
+            step: 100,
+        },
+        StepBand {
+            from: 20_000,
+            step: 200,
+        },
+        StepBand {
+            from: 20_000,
+            step: 200,
+        },
+    ],
+};
+
+/// The steps of family 2: 1; 2 from 200; 5 from 500; 10 from 1,000.
+const TAIWAN_STEPS: StepTable = StepTable {
+    bands: [
+        StepBand { from: 0, step: 1 },
+        StepBand { from: 200, step: 2 },
+        StepBand { from: 500, step: 5 },
+        StepBand {
+            from: 1_000,
+            step: 10,
+        },
+    ],
+};
+
+/// The families in the order of their numbers.
 const FAMILIES: [FamilyTerms; 3] = [
     FamilyTerms {
         cents: 10,
@@ -35,23 +68,7 @@ const FAMILIES: [FamilyTerms; 3] = [
         limit: 15_000,
         minis: true,
         options_on_future: true,
-        steps: StepTable {
-            bands: [
-                StepBand { from: 0, step: 50 },
-                StepBand {
-                    from: 5_000,
-                    step: 100,
-                },
-                StepBand {
-                    from: 20_000,
-                    step: 200,
-                },
-                StepBand {
-                    from: 20_000,
-                    step: 200,
-                },
-            ],
-        },
+        steps: INDEX_STEPS,
     },
     FamilyTerms {
         cents: 10,
@@ -59,23 +76,7 @@ const FAMILIES: [FamilyTerms; 3] = [
         limit: 25_000,
         minis: true,
         options_on_future: true,
-        steps: StepTable {
-            bands: [
-                StepBand { from: 0, step: 50 },
-                StepBand {
-                    from: 5_000,
-                    step: 100,
-                },
-                StepBand {
-                    from: 20_000,
-                    step: 200,
-                },
-                StepBand {
-                    from: 20_000,
-                    step: 200,
-                },
-            ],
-        },
+        steps: INDEX_STEPS,
     },
     FamilyTerms {
         cents: 20,
@@ -83,17 +84,7 @@ const FAMILIES: [FamilyTerms; 3] = [
         limit: 20_000,
         minis: false,
         options_on_future: false,
-        steps: StepTable {
-            bands: [
-                StepBand { from: 0, step: 1 },
-                StepBand { from: 200, step: 2 },
-                StepBand { from: 500, step: 5 },
-                StepBand {
-                    from: 1_000,
-                    step: 10,
-                },
-            ],
-        },
+        steps: TAIWAN_STEPS,
     },
 ];
 
@@ -148,6 +139,12 @@ impl Family {
         ensures value { λ r. ⌜ r .bands ≡ bandsOf self ⌝ }
         ensures rule { λ _. ⌜ ((bands : List StepBand) → joined bands ≡ true → Unbroken bands) ⌝ }
         ensures row { λ _. ⌜ joined (bandsOf self) ≡ true ⌝ }
+    {
+        self.step_table()
+    }
+
+    fn step_table(self) -> StepTable
+        ensures { λ r. ⌜ r .bands ≡ bandsOf self ⌝ }
     {
         FAMILIES[self as usize].steps
     }

@@ -1,2 +1,4 @@
 pub mod Positions
 pub mod Counts
+pub mod Keys
+pub mod Money

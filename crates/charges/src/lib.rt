@@ -1,0 +1,11 @@
+//! What several sides cost, by any tariff: all are quoted in the standing before, then charged in order.
+mod all;
+mod both;
+mod one;
+
+pub use all::charge_all;
+pub use all::charge_each;
+pub use all::quote_all;
+pub use both::charge_both;
+pub use both::quote_both;
+pub use one::fee_of;

@@ -2,3 +2,4 @@ pub mod Bounds
 pub mod Places
 pub mod Spending
 pub mod Trades
+pub mod Settling

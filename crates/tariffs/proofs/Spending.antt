@@ -15,44 +15,12 @@ use Rattle.tariffs.specs.declared.entries.Entry.{Entry}
 use Rattle.tariffs.specs.declared.entries.Entries.{Entries}
 use Rattle.tariffs.specs.Entries.{entry, next, placeIn, placeOf, leftAt, left, lowered, loweredAt, spent}
 use Rattle.tariffs.specs.Allowed.{TakesFromOne}
-use Rattle.tariffs.proofs.Places.{Has}
+use Rattle.tariffs.proofs.Places.{same-place, place-has}
 
 -- no account moves where an entry is lowered
-same-place : (used : ℕ) (es : List Entry) (i n b : ℕ) → placeIn used (set es i (lowered (getD es i (entry 0 0)) n)) b ≡ placeIn used es b
-same-place zero es i n b = refl
-same-place (suc used) [] i n b = refl
-same-place (suc used) (e ∷ es) zero n b = refl
-same-place (suc used) (e ∷ es) (suc i) n b = ap (λ p. cond (eqb (e .account) b) (Some 0) (next p)) (same-place used es i n b)
-
 same-places : (used : ℕ) (es : List Entry) (p : Option ℕ) (n b : ℕ) → placeIn used (loweredAt es p n) b ≡ placeIn used es b
 same-places used es None n b = refl
-same-places used es (Some i) n b = same-place used es i n b
-
-next-place : (x : Option ℕ) (i : ℕ) → next x ≡ Some (suc i) → x ≡ Some i
-next-place None i e = let z : _≡_ {A = ℕ} 0 1 = cc in absurd (omega arith)
-next-place (Some j) i e = let n : suc j ≡ suc i = cc in let m : j ≡ i = omega arith in ap Some m
-
-next-past : (x : Option ℕ) → next x ≡ Some 0 → ⊥
-next-past None e = let z : _≡_ {A = ℕ} 0 1 = cc in omega arith
-next-past (Some j) e = let n : suc j ≡ 0 = cc in omega arith
-
--- an account's place has the account
-place-has : (used : ℕ) (es : List Entry) (a i : ℕ) → placeIn used es a ≡ Some i → Has es a i
-place-has zero es a i p = let z : _≡_ {A = ℕ} 0 1 = cc in absurd (omega arith)
-place-has (suc used) [] a i p = let z : _≡_ {A = ℕ} 0 1 = cc in absurd (omega arith)
-place-has (suc used) (e ∷ es) a zero p =
-    elim (cases-bool (eqb (e .account) a)) [
-      | inl t ↦ eqb-true (e .account) a t
-      | inr f ↦ absurd (next-past (placeIn used es a) (sym (cond-false _ _ _ f) ∙ p))
-    ]
-place-has (suc used) (e ∷ es) a (suc i) p =
-    elim (cases-bool (eqb (e .account) a)) [
-      | inl t ↦
-          let q : Some 0 ≡ Some (suc i) = sym (cond-true _ _ _ t) ∙ p in
-          let z : 0 ≡ suc i = cc in
-          absurd (omega arith)
-      | inr f ↦ place-has used es a i (next-place (placeIn used es a) i (sym (cond-false _ _ _ f) ∙ p))
-    ]
+same-places used es (Some i) n b = same-place used es i (lowered (getD es i (entry 0 0)) n) b refl
 
 -- a place that is not lowered keeps what it has
 kept : (es : List Entry) (p q : Option ℕ) (n : ℕ) → ((i : ℕ) → p ≡ Some i → q ≡ Some i → ⊥) → leftAt (loweredAt es p n) q ≡ leftAt es q

@@ -1,16 +1,14 @@
 -- A reduced rate for the first contracts of a trade, over a lower tariff for the others.
 use mathlib.Core.Path.{_≡_}
 use mathlib.Core.Bool.{cond}
-use Prim.Native.Nat.{ℕ, min, _+_, _-_, _≤_}
+use Prim.Native.Nat.{ℕ, min, _+_, _-_, _*_, _≤_}
 use lib.Dec.{eqb}
 use Rattle.std.specs.declared.option.Option.{Option}
 use Rattle.std.specs.declared.option.Option.the-variants.{Some, None}
 use Rattle.tariffs.specs.declared.side.Side.{Side}
-use Rattle.tariffs.specs.declared.rate.Rate.{Rate}
 use Rattle.tariffs.specs.declared.entries.Entries.{Entries}
 use Rattle.tariffs.specs.declared.allowance.Allowance.{Allowance}
 use Rattle.tariffs.specs.Sides.{within, counting, byEvent}
-use Rattle.tariffs.specs.Rates.{fee}
 use Rattle.tariffs.specs.Entries.{left, spent}
 
 -- k, the least of the contracts traded and of what the account has left
@@ -22,13 +20,13 @@ plus fee None = None
 plus fee (Some more) = Some (fee + more)
 
 -- k contracts at the reduced rate, and the rest, if it is not 0, as the lower tariff prices it
-abbrev pub tradeFee : (Side → Option ℕ) → Rate → ℕ → Side → Option ℕ
+abbrev pub tradeFee : (Side → Option ℕ) → ℕ → ℕ → Side → Option ℕ
 tradeFee lower reduced k s =
-    cond (eqb (s .count - k) 0) (Some (fee k reduced)) (plus (fee k reduced) (lower (counting s (s .count - k))))
+    cond (eqb (s .count - k) 0) (Some (k * reduced)) (plus (k * reduced) (lower (counting s (s .count - k))))
 
 -- an exercise costs what the lower tariff says
 abbrev pub allowedPrice : {L : Type 0} → (Side → Option ℕ) → Allowance L → Side → Option ℕ
-allowedPrice lower t s = cond (within s) (byEvent (s .event) (tradeFee lower (t .reduced) (covered (t .entries) s) s) (lower s)) None
+allowedPrice lower t s = cond (within s) (byEvent (s .event) (tradeFee lower (t .reduced .cents) (covered (t .entries) s) s) (lower s)) None
 
 -- after a trade: the account's entry is k lower, and the lower tariff is charged the rest, if it is not 0
 abbrev pub traded : {L : Type 0} → (Side → L) → Allowance L → Side → Allowance L

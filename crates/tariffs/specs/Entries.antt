@@ -54,9 +54,9 @@ abbrev pub spent : Entries → ℕ → ℕ → Entries
 spent t a n = record { used = t .used; places = loweredAt (t .places) (placeOf t a) n; within = t .within }
 
 -- accounts 0 to 65,534, and 0 to 1,000,000 contracts
-pub record LeftRange (account left : ℕ) : Type 0 where
+pub record LeftRange (account amount : ℕ) : Type 0 where
   pub of-account : account ≤ 65534
-  pub of-left : left ≤ 1000000
+  pub of-amount : amount ≤ 1000000
 
 -- all 64 places are used, and none by this account
 pub record Full (t : Entries) (account : ℕ) : Type 0 where
@@ -72,17 +72,18 @@ abbrev pub usedWith : ℕ → Option ℕ → ℕ
 usedWith used None = used + 1
 usedWith used (Some i) = used
 
--- the table n is t with this entry, in place of any that the account had
-pub record Settled (t : Entries) (account left : ℕ) (n : Entries) : Type 0 where
-  pub range : LeftRange account left
+-- the table n is t with this entry, in place of any that the account had; no other account's reads otherwise
+pub record Settled (t : Entries) (account amount : ℕ) (n : Entries) : Type 0 where
+  pub range : LeftRange account amount
   pub room : Full t account → ⊥
-  pub places : n .places ≡ placedIn (t .used) (t .places) (placeOf t account) (entry account left)
+  pub places : n .places ≡ placedIn (t .used) (t .places) (placeOf t account) (entry account amount)
   pub used : n .used ≡ usedWith (t .used) (placeOf t account)
+  pub reads : (b : ℕ) → left n b ≡ cond (eqb account b) amount (left t b)
 
 -- 4 out of range, and otherwise 12 in layer 3 for a 65th account; then nothing changes
 abbrev pub Settles : Entries → ℕ → ℕ → Entries → Result (Unit {0}) Refusal → Type 0
-Settles t account left n (Ok _) = Settled t account left n
-Settles t account left n (Err e) =
+Settles t account amount n (Ok _) = Settled t account amount n
+Settles t account amount n (Err e) =
     (n ≡ t)
-    × (((LeftRange account left → ⊥) × (e ≡ plain OutOfRange))
-    ⊎ (LeftRange account left × Full t account × (e ≡ plain AllowanceFull)))
+    × (((LeftRange account amount → ⊥) × (e ≡ plain OutOfRange))
+    ⊎ (LeftRange account amount × Full t account × (e ≡ plain AllowanceFull)))

@@ -15,7 +15,7 @@ bound-law g t s x e =
     let most = s .count * 100000 in
     let rest = counting s (s .count - k) in
     let few : k ≤ s .count = omega arith in
-    let trade = tradeFee lower (t .reduced) k s in
+    let trade = tradeFee lower (t .reduced .cents) k s in
     within-le (within s) (byEvent (s .event) trade (lower s)) x most
     (event-le (s .event) trade (lower s) x most
     (parts-le (eqb (s .count - k) 0) (fee k (t .reduced)) (lower rest) x (s .count) k few (fee-le k (t .reduced)) (bound rest))

@@ -1,0 +1,42 @@
+-- The worked figure, and a listing that any charges leave as it was.
+use mathlib.Core.Path.{_≡_, refl, sym, ap, _∙_}
+use mathlib.Core.List.{List, [], _∷_, map}
+use Prim.Native.Nat.{ℕ, zero, suc, min, _*_}
+use native.Mathlib.Omega.{arith}
+use lib.ListN.{getD}
+use Rattle.std.specs.Iters.{folded}
+use Rattle.std.specs.declared.option.Option.{Option}
+use Rattle.std.specs.declared.option.Option.the-variants.{Some, None}
+use Rattle.tariffs.specs.declared.rate.Rate.{Rate}
+use Rattle.tariffs.specs.declared.side.Side.{Side}
+use Rattle.tariffs.specs.declared.listing.Listing.{Listing}
+use Rattle.tariffs.specs.declared.allowance.Allowance.{Allowance}
+use Rattle.tariffs.specs.Rates.{feeBy, centsOf}
+use Rattle.tariffs.specs.Listed.{listed, listedPrice}
+use Rattle.tariffs.specs.Entries.{left}
+use Rattle.tariffs.specs.Allowed.{plus, tradeFee, allowedPrice}
+use Rattle.charges.specs.Figure.{five}
+
+-- what no charge moves, many do not
+pub never-moves : {S : Type 0} (s : S) (sides : List Side) → folded (λ t x. t) s sides ≡ s
+never-moves s [] = refl
+never-moves s (x ∷ sides) = never-moves s sides
+
+feeBy-cents : (n cents : ℕ) (o : Option Rate) → centsOf o ≡ Some cents → feeBy n o ≡ Some (n * cents)
+feeBy-cents n cents None e = let z : _≡_ {A = ℕ} 0 1 = cc in absurd (omega arith)
+feeBy-cents n cents (Some rate) e = let same : rate .cents ≡ cents = cc in ap (λ c. Some (n * c)) same
+
+cents-at : (rates : List (Option Rate)) (i : ℕ) → getD (map centsOf rates) i None ≡ centsOf (getD rates i None)
+cents-at [] i = refl
+cents-at (o ∷ rates) zero = refl
+cents-at (o ∷ rates) (suc i) = cents-at rates i
+
+-- a maker's trade of a future stands in place 2
+pub worked : (a : Allowance Listing) → left (a .entries) 7 ≡ 3 → a .reduced .cents ≡ 200 → getD (listed (a .lower)) 2 None ≡ Some 1000
+    → allowedPrice (listedPrice (a .lower)) a five ≡ Some 2600
+worked a three cheap dear =
+    let lower = listedPrice (a .lower) in
+    let rates = a .lower .rates in
+    ap (λ l. tradeFee lower (a .reduced .cents) (min 5 l) five) three
+    ∙ ap (λ cents. tradeFee lower cents 3 five) cheap
+    ∙ ap (plus 600) (feeBy-cents 2 1000 (getD rates 2 None) (sym (cents-at rates 2) ∙ dear))

@@ -1,9 +1,10 @@
 ghost use mathlib.Core.Path.{_≡_};
 ghost use Prim.Native.Nat.{_<_};
-ghost use lib.ListN.{replicate};
+ghost use lib.ListN.{replicate, set};
 ghost use Rattle.std.specs.declared.option.Option.the-variants.{None};
 ghost use Rattle.terms.specs.Kinds.{kindNumber, sizeNumber, accountKindNumber};
 ghost use Rattle.tariffs.specs.Sides.{eventNumber};
+ghost use Rattle.tariffs.specs.Rates.{centsOf};
 ghost use Rattle.tariffs.specs.Listed.{place as placeIn, listed, listedPrice, Lists};
 use crate::rate::Rate;
 use crate::side::Event;
@@ -49,8 +50,15 @@ impl Listing {
         let account_kind = AccountKind::numbered(account_kind)?;
         let event = Event::numbered(event)?;
         let rate = Rate::or_none(rate)?;
-        self.rates[place(series_kind, size, account_kind, event)] = rate;
+        self.put(place(series_kind, size, account_kind, event), rate);
         Ok(())
+    }
+
+    fn put(&mut self, place: usize, rate: Option<Rate>)
+        requires { ⌜ place < 60 ⌝ }
+        ensures { λ _. ⌜ listed (now (self .exit)) ≡ set (listed (now (self .entry))) place (centsOf rate) ⌝ }
+    {
+        self.rates[place] = rate;
     }
 }
 

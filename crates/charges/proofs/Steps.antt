@@ -3,12 +3,11 @@ use mathlib.Core.Path.{_≡_, refl, sym, ap, _∙_}
 use mathlib.Core.List.{List, [], _∷_, _++_, append-assoc}
 use Prim.Native.Nat.{ℕ, _+_, _*_, _<_, _≤_}
 use native.Mathlib.Omega.{arith}
-use lib.Dec.{ltb}
 use lib.ListN.{length, take, drop, getD, set}
+use Rattle.std.specs.Iters.{folded}
 use Rattle.std.specs.shelf.Lists.{sum, sumBy}
 use Rattle.std.proofs.shelf.Sums.{sumBy-cons}
 use Rattle.std.proofs.shelf.Lists.{at-drop-more, at-drop-all, append-nil, take-append-drop, length-take-le, take-more-set, drop-set-lt, drop-drop}
-use Rattle.std.proofs.shelf.Tests.{le-ltb, cond-false}
 use Rattle.std.specs.declared.option.Option.{Option}
 use Rattle.std.specs.declared.option.Option.the-variants.{Some, None}
 use Rattle.std.specs.declared.result.Result.{Result}
@@ -19,7 +18,7 @@ use Rattle.terms.specs.declared.kinds.Size.the-variants.{Full}
 use Rattle.terms.specs.declared.refusal.Refusal.{Refusal}
 use Rattle.tariffs.specs.declared.side.Event.the-variants.{Trade}
 use Rattle.tariffs.specs.declared.side.Side.{Side}
-use Rattle.charges.specs.Fees.{rated, first, unless, feesOf, ratedAll, answer, written}
+use Rattle.charges.specs.Fees.{rated, first, unless, feesOf, ratedAll, inFront}
 
 -- what is read past the end of a slice of sides
 abbrev pub blank : Side
@@ -84,17 +83,12 @@ space-more fees old i fee e =
     drop-set-lt (i + 1) fees i fee (omega arith) ∙ sym (drop-drop 1 i fees) ∙ ap (drop 1) e ∙ drop-drop 1 i old
 
 -- what is written, once i fees are
-fees-there : (fees old all : List ℕ) (i : ℕ) → i ≤ length fees → all ≡ take i fees → drop i fees ≡ drop i old → fees ≡ all ++ drop (length all) old
+pub fees-there : (fees old all : List ℕ) (i : ℕ) → i ≤ length fees → all ≡ take i fees → drop i fees ≡ drop i old → fees ≡ inFront all old
 fees-there fees old all i h e kept =
     let n : length all ≡ i = ap length e ∙ length-take-le i fees h in
     sym (take-append-drop i fees) ∙ ap (λ rest. take i fees ++ rest) kept ∙ ap (λ fs. fs ++ drop i old) (sym e) ∙ ap (λ k. all ++ drop k old) (sym n)
 
-module _ (price : Side → Option ℕ) (ss : List Side) (old : List ℕ) (room : length ss ≤ length old) where
-  -- the answer where there is space
-  pub answer-there : (r : Result (Unit {0}) Refusal) → ratedAll price ss ≡ r → r ≡ answer price ss old
-  answer-there r e = sym e ∙ sym (cond-false (ltb (length old) (length ss)) _ _ (le-ltb _ _ room))
-
-  -- what is written where there is space, once i fees are
-  pub written-there : (fees : List ℕ) (i : ℕ) → i ≤ length fees → feesOf price ss ≡ take i fees → drop i fees ≡ drop i old → fees ≡ written price ss old
-  written-there fees i h e kept =
-      fees-there fees old (feesOf price ss) i h e kept ∙ sym (cond-false (ltb (length old) (length ss)) _ _ (le-ltb _ _ room))
+-- what no charge moves, many do not
+pub never-moves : {S : Type 0} (after : S → Side → S) (t : S) → ((s : Side) → after t s ≡ t) → (ss : List Side) → folded after t ss ≡ t
+never-moves after t same [] = refl
+never-moves after t same (s ∷ ss) = ap (λ u. folded after u ss) (same s) ∙ never-moves after t same ss

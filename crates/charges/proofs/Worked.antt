@@ -1,14 +1,12 @@
--- The worked figure, and a listing that any charges leave as it was.
+-- The worked figure.
 use mathlib.Core.Path.{_≡_, refl, sym, ap, _∙_}
 use mathlib.Core.List.{List, [], _∷_, map}
 use Prim.Native.Nat.{ℕ, zero, suc, min, _*_}
 use native.Mathlib.Omega.{arith}
 use lib.ListN.{getD}
-use Rattle.std.specs.Iters.{folded}
 use Rattle.std.specs.declared.option.Option.{Option}
 use Rattle.std.specs.declared.option.Option.the-variants.{Some, None}
 use Rattle.tariffs.specs.declared.rate.Rate.{Rate}
-use Rattle.tariffs.specs.declared.side.Side.{Side}
 use Rattle.tariffs.specs.declared.listing.Listing.{Listing}
 use Rattle.tariffs.specs.declared.allowance.Allowance.{Allowance}
 use Rattle.tariffs.specs.Rates.{feeBy, centsOf}
@@ -16,11 +14,6 @@ use Rattle.tariffs.specs.Listed.{listed, listedPrice}
 use Rattle.tariffs.specs.Entries.{left}
 use Rattle.tariffs.specs.Allowed.{plus, tradeFee, allowedPrice}
 use Rattle.charges.specs.Figure.{five}
-
--- what no charge moves, many do not
-pub never-moves : {S : Type 0} (s : S) (sides : List Side) → folded (λ t x. t) s sides ≡ s
-never-moves s [] = refl
-never-moves s (x ∷ sides) = never-moves s sides
 
 feeBy-cents : (n cents : ℕ) (o : Option Rate) → centsOf o ≡ Some cents → feeBy n o ≡ Some (n * cents)
 feeBy-cents n cents None e = let z : _≡_ {A = ℕ} 0 1 = cc in absurd (omega arith)

@@ -55,8 +55,10 @@ ratedAll price (s ∷ ss) = unless (rated (price s) (s .account)) (ratedAll pric
 abbrev pub answer : (Side → Option ℕ) → List Side → List ℕ → Result (Unit {0}) Refusal
 answer price sides space = cond (ltb (length space) (length sides)) (Err (plain NoSpace)) (ratedAll price sides)
 
--- the fees in front; the space behind them stays as it was, and all of it where there is too little
+-- fees in the front of a space, which stays as it was behind them
+abbrev pub inFront : List ℕ → List ℕ → List ℕ
+inFront fees space = fees ++ drop (length fees) space
+
+-- the fees in front; nothing where there is too little space
 abbrev pub written : (Side → Option ℕ) → List Side → List ℕ → List ℕ
-written price sides space =
-    let fees = feesOf price sides in
-    cond (ltb (length space) (length sides)) space (fees ++ drop (length fees) space)
+written price sides space = cond (ltb (length space) (length sides)) space (inFront (feesOf price sides) space)

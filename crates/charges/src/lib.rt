@@ -4,6 +4,8 @@ mod both;
 mod figure;
 mod listing;
 mod one;
+#[cfg(test)]
+mod tests;
 
 pub use all::charge_all;
 pub use all::charge_each;

@@ -28,11 +28,17 @@ tradeFee lower reduced k s =
 abbrev pub allowedPrice : {L : Type 0} → (Side → Option ℕ) → Allowance L → Side → Option ℕ
 allowedPrice lower t s = cond (within s) (byEvent (s .event) (tradeFee lower (t .reduced .cents) (covered (t .entries) s) s) (lower s)) None
 
--- after a trade: the account's entry is k lower, and the lower tariff is charged the rest, if it is not 0
+-- the rest of a trade, which the allowance does not cover
+abbrev pub restOf : Entries → Side → ℕ
+restOf t s = s .count - covered t s
+
+-- the lower tariff is charged the rest, if it is not 0
+abbrev pub lowerTraded : {L : Type 0} → (Side → L) → Allowance L → Side → L
+lowerTraded charged t s = cond (eqb (restOf (t .entries) s) 0) (t .lower) (charged (counting s (restOf (t .entries) s)))
+
+-- after a trade: the account's entry is k lower
 abbrev pub traded : {L : Type 0} → (Side → L) → Allowance L → Side → Allowance L
-traded charged t s =
-    let rest = s .count - covered (t .entries) s in
-    record { reduced = t .reduced; entries = spent (t .entries) (s .account) (s .count); lower = cond (eqb rest 0) (t .lower) (charged (counting s rest)) }
+traded charged t s = record { reduced = t .reduced; entries = spent (t .entries) (s .account) (s .count); lower = lowerTraded charged t s }
 
 -- after an exercise: the lower tariff is charged all
 abbrev pub exercised : {L : Type 0} → (Side → L) → Allowance L → Side → Allowance L

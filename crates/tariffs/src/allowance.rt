@@ -1,6 +1,7 @@
 ghost use mathlib.Core.Path.{_≡_};
 ghost use Prim.Native.Nat.{_*_, _≤_};
-ghost use Rattle.tariffs.specs.Allowed.{allowedPrice, allowedAfter, TakesFromOne};
+ghost use Rattle.tariffs.specs.Allowed.{allowedPrice, allowedAfter, lowerTraded, TakesFromOne};
+ghost use Rattle.tariffs.specs.Entries.{spent};
 ghost use Rattle.tariffs.specs.Calls.{Reduces, SetsLeft, readLeft};
 use crate::entries::Entries;
 use crate::rate::Rate;
@@ -59,6 +60,21 @@ impl<L> Allowance<L> {
     }
 }
 
+impl<L: Tariff> Allowance<L> {
+    // Takes what the account has left, and charges the rest below.
+    fn charge_trade(&mut self, side: &Side)
+        ensures reduced { λ _. ⌜ now (self .exit) .reduced ≡ now (self .entry) .reduced ⌝ }
+        ensures entries { λ _. ⌜ now (self .exit) .entries ≡ spent (now (self .entry) .entries) (now (side .entry) .account) (now (side .entry) .count) ⌝ }
+        ensures lower { λ _. ⌜ now (self .exit) .lower ≡ lowerTraded (L·Tariff .after (now (self .entry) .lower)) (now (self .entry)) (now (side .entry)) ⌝ }
+    {
+        let k = self.entries.spend(side.account, side.count);
+        let rest = side.count - k;
+        if rest > 0 {
+            self.lower.charge(&side.counting(rest));
+        }
+    }
+}
+
 pub impl<L: Tariff> Tariff for Allowance<L> as AllowanceTariff {
     ghost price = { λ t s. allowedPrice (L·Tariff .price (t .lower)) t s };
 
@@ -92,13 +108,7 @@ pub impl<L: Tariff> Tariff for Allowance<L> as AllowanceTariff {
         }
         match side.event {
             Event::Exercise => self.lower.charge(side),
-            Event::Trade => {
-                let k = self.entries.spend(side.account, side.count);
-                let rest = side.count - k;
-                if rest > 0 {
-                    self.lower.charge(&side.counting(rest));
-                }
-            }
+            Event::Trade => self.charge_trade(side),
         }
     }
 }

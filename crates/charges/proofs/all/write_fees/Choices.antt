@@ -2,7 +2,7 @@ use mathlib.Core.Path.{_≡_}
 use mathlib.Core.List.{_++_}
 use lib.ListN.{take, drop}
 use Rattle.charges.specs.Fees.{feesOf, ratedAll}
-use Rattle.charges.proofs.all.quote_all.Given as given
+use Rattle.charges.proofs.all.write_fees.Given as given
 
 -- the fees so far are written, and the others are still to come
 abbrev pub Inv-loop-i : given.InvT-loop-i

@@ -1,26 +1,15 @@
-use mathlib.Core.Path.{refl, sym, ap, _∙_}
+use mathlib.Core.Path.{sym, ap, _∙_}
 use mathlib.Core.List.{_++_}
 use Prim.Native.Nat.{_<_}
 use native.Mathlib.Omega.{arith}
 use borrow.Author.Needs.{needs}
 use lib.ListN.{length, getD, take}
-use Rattle.std.specs.declared.result.Result.the-variants.{Ok, Err}
+use Rattle.std.specs.declared.result.Result.the-variants.{Err}
 use Rattle.std.proofs.shelf.Lists.{at-drop-all, append-nil}
 use Rattle.std.proofs.shelf.Results.{err-from-errBy}
-use Rattle.std.proofs.shelf.Tests.{lt-ltb, cond-true}
 use Rattle.charges.specs.Fees.{feesOf, ratedAll}
-use Rattle.charges.proofs.Steps.{blank, priced, feesOf-le, fees-more, rated-more, fees-stop, rated-stops, space-more, answer-there, written-there}
-use Rattle.charges.proofs.all.quote_all.Needs as need
-
-pub returns-then-fees-sides : need.returns-then-fees-sides
-returns-then-fees-sides g c =
-    let t = c .args .tariff .now in
-    let few = lt-ltb (length (c .args .fees .now)) (length (c .args .sides .now)) (c .if-fees-sides .taken) in
-    record {
-      answer = ap Err (c .plain .ensures) ∙ sym (cond-true _ _ _ few);
-      written = sym (cond-true _ _ _ few);
-      bound = feesOf-le (g .T·Tariff .price t) (g .T·Tariff·met .bound t) (c .args .sides .now);
-    }
+use Rattle.charges.proofs.Steps.{blank, priced, feesOf-le, fees-more, rated-more, fees-stop, rated-stops, space-more, fees-there}
+use Rattle.charges.proofs.all.write_fees.Needs as need
 
 pub returns-in-Break-fee : need.returns-in-Break-fee
 returns-in-Break-fee g c =
@@ -38,8 +27,8 @@ returns-in-Break-fee g c =
       answer =
           p .1
           ∙ ap Err (p .2)
-          ∙ answer-there price ss old (c .if-fees-sides .left) _ (rated-stops price ss i h _ e (inv .1));
-      written = written-there price ss old (c .if-fees-sides .left) fees i (omega arith) (fees-stop price ss i h (take i fees) _ e (inv .0)) (inv .2);
+          ∙ sym (rated-stops price ss i h _ e (inv .1));
+      written = fees-there fees old (feesOf price ss) i (omega arith) (fees-stop price ss i h (take i fees) _ e (inv .0)) (inv .2);
       bound = feesOf-le price (g .T·Tariff·met .bound t) ss;
     }
 
@@ -71,9 +60,9 @@ returns g c =
     let end = c .loop-i-test .left in
     let inv = c .loop-i .inv in
     record {
-      answer = answer-there price ss old (c .if-fees-sides .left) (Ok tt) (inv .1 ∙ at-drop-all (ratedAll price) ss i end);
+      answer = sym (inv .1 ∙ at-drop-all (ratedAll price) ss i end);
       written =
-          written-there price ss old (c .if-fees-sides .left) fees i (omega arith)
+          fees-there fees old (feesOf price ss) i (omega arith)
           (inv .0 ∙ ap (λ fs. take i fees ++ fs) (at-drop-all (feesOf price) ss i end) ∙ append-nil (take i fees))
           (inv .2);
       bound = feesOf-le price (g .T·Tariff·met .bound t) ss;

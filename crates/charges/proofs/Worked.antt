@@ -10,10 +10,9 @@ use Rattle.tariffs.specs.declared.rate.Rate.{Rate}
 use Rattle.tariffs.specs.declared.listing.Listing.{Listing}
 use Rattle.tariffs.specs.declared.allowance.Allowance.{Allowance}
 use Rattle.tariffs.specs.Rates.{feeBy, centsOf}
-use Rattle.tariffs.specs.Listed.{listed, listedPrice}
-use Rattle.tariffs.specs.Entries.{left}
+use Rattle.tariffs.specs.Listed.{placeOf, listedPrice}
 use Rattle.tariffs.specs.Allowed.{plus, tradeFee, allowedPrice}
-use Rattle.charges.specs.Figure.{five}
+use Rattle.charges.specs.Figure.{five, Priced}
 
 feeBy-cents : (n cents : ℕ) (o : Option Rate) → centsOf o ≡ Some cents → feeBy n o ≡ Some (n * cents)
 feeBy-cents n cents None e = let z : _≡_ {A = ℕ} 0 1 = cc in absurd (omega arith)
@@ -24,12 +23,10 @@ cents-at [] i = refl
 cents-at (o ∷ rates) zero = refl
 cents-at (o ∷ rates) (suc i) = cents-at rates i
 
--- a maker's trade of a future stands in place 2
-pub worked : (a : Allowance Listing) → left (a .entries) 7 ≡ 3 → a .reduced .cents ≡ 200 → getD (listed (a .lower)) 2 None ≡ Some 1000
-    → allowedPrice (listedPrice (a .lower)) a five ≡ Some 2600
-worked a three cheap dear =
+pub worked : (a : Allowance Listing) → Priced a → allowedPrice (listedPrice (a .lower)) a five ≡ Some 2600
+worked a p =
     let lower = listedPrice (a .lower) in
     let rates = a .lower .rates in
-    ap (λ l. tradeFee lower (a .reduced .cents) (min 5 l) five) three
-    ∙ ap (λ cents. tradeFee lower cents 3 five) cheap
-    ∙ ap (plus 600) (feeBy-cents 2 1000 (getD rates 2 None) (sym (cents-at rates 2) ∙ dear))
+    ap (λ l. tradeFee lower (a .reduced .cents) (min 5 l) five) (p .three)
+    ∙ ap (λ cents. tradeFee lower cents 3 five) (p .reduced)
+    ∙ ap (plus 600) (feeBy-cents 2 1000 (getD rates (placeOf five) None) (sym (cents-at rates (placeOf five)) ∙ p .below))

@@ -3,7 +3,7 @@ ghost use Prim.Native.Nat.{min, _*_};
 ghost use Rattle.std.specs.declared.option.Option.the-variants.{Some};
 ghost use Rattle.std.specs.declared.result.Result.the-variants.{Ok};
 ghost use Rattle.tariffs.specs.Allowed.{tradeFee};
-ghost use Rattle.charges.specs.Figure.{five};
+ghost use Rattle.charges.specs.Figure.{five, ThreeLeft};
 use crate::one::fee_of;
 use tariffs::Allowance;
 use tariffs::AllowanceTariff;
@@ -29,10 +29,17 @@ pub fn worked_figure() -> Result<u64, Refusal>
         event: Event::Trade,
         count: 5,
     };
+    fee_of(&three_left()?, &side)
+}
+
+// Account 7 has 3 contracts left at 200 cents; below, a maker's trade of futures costs 1,000.
+fn three_left() -> Result<Allowance<Listing>, Refusal>
+    ensures { λ r. ⌜ ThreeLeft r ⌝ }
+{
     let mut listing = Listing::new();
     listing.set(0, 0, 1, 0, Some(1_000))?;
     let mut allowance = Allowance::new(listing);
     allowance.set_reduced(200)?;
     allowance.set_left(7, 3)?;
-    fee_of(&allowance, &side)
+    Ok(allowance)
 }

@@ -56,6 +56,7 @@ pub fn charge_all<T: Tariff>(
 ) -> Result<(), Refusal>
     ensures answer { λ r. ⌜ r ≡ answer (price (now (tariff .entry))) (now (sides .entry)) (now (fees .entry)) ⌝ }
     ensures written { λ _. ⌜ now (fees .exit) ≡ written (price (now (tariff .entry))) (now (sides .entry)) (now (fees .entry)) ⌝ }
+    ensures bound { λ r. ⌜ made r (λ _. sum (feesOf (price (now (tariff .entry))) (now (sides .entry))) ≤ sumBy (λ s. s .count) (now (sides .entry)) * 100000) ⌝ }
     ensures standing { λ r. ⌜ now (tariff .exit) ≡ onOk r (folded after (now (tariff .entry)) (now (sides .entry))) (now (tariff .entry)) ⌝ }
 {
     quote_all(tariff, sides, fees)?;

@@ -25,6 +25,7 @@ pub fn charge_both<T: Tariff>(
     seller: &Side,
 ) -> Result<(u64, u64), Refusal>
     ensures answer { λ r. ⌜ r ≡ ratedBoth (price (now (tariff .entry))) (now (buyer .entry)) (now (seller .entry)) ⌝ }
+    ensures bound { λ r. ⌜ made r (λ fees. fees .0 + fees .1 ≤ (now (buyer .entry) .count + now (seller .entry) .count) * 100000) ⌝ }
     ensures standing { λ r. ⌜ now (tariff .exit) ≡ onOk r (after (after (now (tariff .entry)) (now (buyer .entry))) (now (seller .entry))) (now (tariff .entry)) ⌝ }
 {
     let fees = quote_both(tariff, buyer, seller)?;

@@ -13,7 +13,7 @@ use Rattle.std.proofs.shelf.Lists.{getD-set-same, getD-set-other, set-past}
 use Rattle.std.proofs.shelf.Tests.{cases-bool, cases-eq, cases-lt, cond-true, cond-false, eqb-true}
 use Rattle.tariffs.specs.declared.entries.Entry.{Entry}
 use Rattle.tariffs.specs.declared.entries.Entries.{Entries}
-use Rattle.tariffs.specs.Entries.{entry, next, placeIn, placeOf, leftAt, left, lowered, loweredAt, spent}
+use Rattle.tariffs.specs.Entries.{entry, next, placeIn, entryOf, leftAt, left, lowered, loweredAt, spent}
 use Rattle.tariffs.specs.Allowed.{TakesFromOne}
 use Rattle.tariffs.proofs.Places.{same-place, place-has}
 
@@ -47,9 +47,9 @@ pub spent-one : (t : Entries) (a n : ℕ) → TakesFromOne t a (spent t a n)
 spent-one t a n =
     let u = t .used in
     let es = t .places in
-    let p = placeOf t a in
-    let at : (b : ℕ) → left (spent t a n) b ≡ leftAt (loweredAt es p n) (placeOf t b) = λ b. ap (leftAt (loweredAt es p n)) (same-places u es p n b) in
+    let p = entryOf t a in
+    let at : (b : ℕ) → left (spent t a n) b ≡ leftAt (loweredAt es p n) (entryOf t b) = λ b. ap (leftAt (loweredAt es p n)) (same-places u es p n b) in
     record {
-      no-other = λ b other. at b ∙ kept es p (placeOf t b) n (λ i x y. other (sym (place-has u es a i x) ∙ place-has u es b i y));
-      never-rises = λ b. omega (arith, at b, falls es p (placeOf t b) n);
+      no-other = λ b other. at b ∙ kept es p (entryOf t b) n (λ i x y. other (sym (place-has u es a i x) ∙ place-has u es b i y));
+      never-rises = λ b. omega (arith, at b, falls es p (entryOf t b) n);
     }

@@ -29,8 +29,8 @@ placeIn zero es a = None
 placeIn (suc used) [] a = None
 placeIn (suc used) (e ∷ es) a = cond (eqb (e .account) a) (Some 0) (next (placeIn used es a))
 
-abbrev pub placeOf : Entries → ℕ → Option ℕ
-placeOf t a = placeIn (t .used) (t .places) a
+abbrev pub entryOf : Entries → ℕ → Option ℕ
+entryOf t a = placeIn (t .used) (t .places) a
 
 -- what a place has left; an account without a place has none
 abbrev pub leftAt : List Entry → Option ℕ → ℕ
@@ -39,7 +39,7 @@ leftAt es (Some i) = getD es i (entry 0 0) .left
 
 -- what the account has left
 abbrev pub left : Entries → ℕ → ℕ
-left t a = leftAt (t .places) (placeOf t a)
+left t a = leftAt (t .places) (entryOf t a)
 
 -- up to n contracts taken off an entry
 abbrev pub lowered : Entry → ℕ → Entry
@@ -51,7 +51,7 @@ loweredAt es (Some i) n = set es i (lowered (getD es i (entry 0 0)) n)
 
 -- the account's entry lowered by up to n
 abbrev pub spent : Entries → ℕ → ℕ → Entries
-spent t a n = record { used = t .used; places = loweredAt (t .places) (placeOf t a) n; within = t .within }
+spent t a n = record { used = t .used; places = loweredAt (t .places) (entryOf t a) n; within = t .within }
 
 -- accounts 0 to 65,534, and 0 to 1,000,000 contracts
 pub record LeftRange (account amount : ℕ) : Type 0 where
@@ -60,7 +60,7 @@ pub record LeftRange (account amount : ℕ) : Type 0 where
 
 -- all 64 places are used, and none by this account
 pub record Full (t : Entries) (account : ℕ) : Type 0 where
-  pub not-there : placeOf t account ≡ None
+  pub not-there : entryOf t account ≡ None
   pub all-used : t .used ≡ 64
 
 -- the account's place, or one more
@@ -76,8 +76,8 @@ usedWith used (Some i) = used
 pub record Settled (t : Entries) (account amount : ℕ) (n : Entries) : Type 0 where
   pub range : LeftRange account amount
   pub room : Full t account → ⊥
-  pub places : n .places ≡ placedIn (t .used) (t .places) (placeOf t account) (entry account amount)
-  pub used : n .used ≡ usedWith (t .used) (placeOf t account)
+  pub places : n .places ≡ placedIn (t .used) (t .places) (entryOf t account) (entry account amount)
+  pub used : n .used ≡ usedWith (t .used) (entryOf t account)
   pub reads : (b : ℕ) → left n b ≡ cond (eqb account b) amount (left t b)
 
 -- 4 out of range, and otherwise 12 in layer 3 for a 65th account; then nothing changes

@@ -18,11 +18,11 @@ use Rattle.tariffs.specs.Sides.{eventNumber, within}
 use Rattle.tariffs.specs.Rates.{MayBeListed, feeBy, centsOf}
 
 -- the place of a rate: 5 kinds of series, 2 sizes, 3 kinds of account, 2 events
-abbrev pub place : ℕ → ℕ → ℕ → ℕ → ℕ
-place series size account event = ((series * 2 + size) * 3 + account) * 2 + event
+abbrev pub placeNumber : ℕ → ℕ → ℕ → ℕ → ℕ
+placeNumber series size account event = ((series * 2 + size) * 3 + account) * 2 + event
 
 abbrev pub placeOf : Side → ℕ
-placeOf s = place (kindNumber (s .«series_kind»)) (sizeNumber (s .size)) (accountKindNumber (s .«account_kind»)) (eventNumber (s .event))
+placeOf s = placeNumber (kindNumber (s .«series_kind»)) (sizeNumber (s .size)) (accountKindNumber (s .«account_kind»)) (eventNumber (s .event))
 
 -- count × rate, for a side in range that has one
 abbrev pub listedPrice : Listing → Side → Option ℕ
@@ -43,6 +43,6 @@ pub record ListRange (series size account event : ℕ) (rate : Option ℕ) : Typ
 -- Puts the rate into its place; 4 where something is out of range, and nothing changes.
 abbrev pub Lists : Listing → ℕ → ℕ → ℕ → ℕ → Option ℕ → Listing → Result (Unit {0}) Refusal → Type 0
 Lists old series size account event rate new (Ok _) =
-    ListRange series size account event rate × (listed new ≡ set (listed old) (place series size account event) rate)
+    ListRange series size account event rate × (listed new ≡ set (listed old) (placeNumber series size account event) rate)
 Lists old series size account event rate new (Err e) =
     (ListRange series size account event rate → ⊥) × (e ≡ plain OutOfRange) × (new ≡ old)

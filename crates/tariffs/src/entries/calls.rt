@@ -2,7 +2,7 @@ ghost use mathlib.Core.Path.{_≡_};
 ghost use Prim.Native.Nat.{min, _<_};
 ghost use lib.ListN.{replicate};
 ghost use Rattle.std.specs.Options.{Cases as BySome};
-ghost use Rattle.tariffs.specs.Entries.{entry, placeOf, left as leftOf, lowered, spent, Settles};
+ghost use Rattle.tariffs.specs.Entries.{entry, entryOf, left as leftOf, lowered, spent, Settles};
 use crate::entries::Entries;
 use crate::entries::Entry;
 use crate::entries::PLACES;
@@ -40,7 +40,7 @@ impl Entries {
 
     // The place of the account's entry.
     fn find(&self, account: u16) -> Option<usize>
-        ensures value { λ r. ⌜ r ≡ placeOf (now (self .entry)) account ⌝ }
+        ensures value { λ r. ⌜ r ≡ entryOf (now (self .entry)) account ⌝ }
         ensures there { λ r. ⌜ BySome r (Unit {0}) (λ i. i < now (self .entry) .used) ⌝ }
     {
         for i in 0..self.used {

@@ -4,7 +4,7 @@ use native.Mathlib.Omega.{arith}
 use borrow.Author.Needs.{needs}
 use lib.ListN.{length}
 use Rattle.std.specs.declared.option.Option.the-variants.{Some, None}
-use Rattle.tariffs.specs.Entries.{entry, placeOf, placedIn, usedWith}
+use Rattle.tariffs.specs.Entries.{entry, entryOf, placedIn, usedWith}
 use Rattle.tariffs.proofs.Settling.{left-replaced, left-new}
 use Rattle.tariffs.proofs.entries.Entries.set.Needs as need
 
@@ -14,7 +14,7 @@ returns-in-Some c =
     let a = c .args .account in
     let n = c .args .left in
     let i = c .in-Some .i in
-    let p : Some i ≡ placeOf t a = c .in-Some .ensures tt .value in
+    let p : Some i ≡ entryOf t a = c .in-Some .ensures tt .value in
     let here : i < length (t .places) = search needs in
     record {
       range = search needs;
@@ -29,7 +29,7 @@ returns c =
     let t = c .args .self .now in
     let a = c .args .account in
     let n = c .args .left in
-    let p : None ≡ placeOf t a = c .in-rest .ensures tt .value in
+    let p : None ≡ entryOf t a = c .in-rest .ensures tt .value in
     let here : t .used < length (t .places) = search needs in
     record {
       range = search needs;

@@ -21,6 +21,12 @@ use Rattle.tariffs.specs.Rates.{MayBeListed, feeBy, centsOf}
 abbrev pub placeNumber : ℕ → ℕ → ℕ → ℕ → ℕ
 placeNumber series size account event = ((series * 2 + size) * 3 + account) * 2 + event
 
+-- no two kinds of sides have one place
+abbrev pub Apart : Type 0
+Apart =
+    (a b c d a′ b′ c′ d′ : ℕ) → b < 2 → c < 3 → d < 2 → b′ < 2 → c′ < 3 → d′ < 2
+    → placeNumber a b c d ≡ placeNumber a′ b′ c′ d′ → (a ≡ a′) × (b ≡ b′) × (c ≡ c′) × (d ≡ d′)
+
 abbrev pub placeOf : Side → ℕ
 placeOf s = placeNumber (kindNumber (s .«series_kind»)) (sizeNumber (s .size)) (accountKindNumber (s .«account_kind»)) (eventNumber (s .event))
 

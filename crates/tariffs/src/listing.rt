@@ -5,7 +5,7 @@ ghost use Rattle.std.specs.declared.option.Option.the-variants.{None};
 ghost use Rattle.terms.specs.Kinds.{kindNumber, sizeNumber, accountKindNumber};
 ghost use Rattle.tariffs.specs.Sides.{eventNumber};
 ghost use Rattle.tariffs.specs.Rates.{centsOf};
-ghost use Rattle.tariffs.specs.Listed.{placeNumber, listed, listedPrice, Lists};
+ghost use Rattle.tariffs.specs.Listed.{placeNumber, Apart, listed, listedPrice, Lists};
 use crate::rate::Rate;
 use crate::side::Event;
 use crate::side::Side;
@@ -66,6 +66,7 @@ impl Listing {
 fn place(series_kind: SeriesKind, size: Size, account_kind: AccountKind, event: Event) -> usize
     ensures value { λ r. ⌜ r ≡ placeNumber (kindNumber «series_kind») (sizeNumber size) (accountKindNumber «account_kind») (eventNumber event) ⌝ }
     ensures there { λ r. ⌜ r < 60 ⌝ }
+    ensures apart { λ _. ⌜ Apart ⌝ }
 {
     let series = series_kind as usize * 2 + size as usize;
     (series * 3 + account_kind as usize) * 2 + event as usize

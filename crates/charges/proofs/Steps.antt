@@ -7,10 +7,9 @@ use lib.ListN.{length, take, drop, getD, set}
 use Rattle.std.specs.Iters.{folded}
 use Rattle.std.specs.shelf.Lists.{sum, sumBy}
 use Rattle.std.proofs.shelf.Sums.{sumBy-cons}
-use Rattle.std.proofs.shelf.Lists.{at-drop-more, at-drop-all, append-nil, take-append-drop, length-take-le, take-more-set, drop-set-lt, drop-drop}
+use Rattle.std.proofs.shelf.Lists.{at-drop-more, append-nil, take-append-drop, length-take-le, take-more-set, drop-set-lt, drop-drop}
 use Rattle.std.specs.declared.option.Option.{Option}
 use Rattle.std.specs.declared.option.Option.the-variants.{Some, None}
-use Rattle.std.specs.declared.result.Result.{Result}
 use Rattle.std.specs.declared.result.Result.the-variants.{Ok, Err}
 use Rattle.terms.specs.declared.kinds.AccountKind.the-variants.{House}
 use Rattle.terms.specs.declared.kinds.SeriesKind.the-variants.{Future}

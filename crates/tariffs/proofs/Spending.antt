@@ -1,19 +1,17 @@
 -- Spending takes from one account's entry and no other.
 use mathlib.Core.Path.{_≡_, refl, sym, ap, subst, _∙_}
-use mathlib.Core.Bool.{cond}
-use mathlib.Core.List.{List, [], _∷_}
+use mathlib.Core.List.{List}
 use mathlib.Core.Logic.{inl, inr}
-use Prim.Native.Nat.{ℕ, zero, suc, _≤_}
+use Prim.Native.Nat.{ℕ, _≤_}
 use native.Mathlib.Omega.{arith}
-use lib.Dec.{eqb}
 use lib.ListN.{length, getD, set}
 use Rattle.std.specs.declared.option.Option.{Option}
 use Rattle.std.specs.declared.option.Option.the-variants.{Some, None}
 use Rattle.std.proofs.shelf.Lists.{getD-set-same, getD-set-other, set-past}
-use Rattle.std.proofs.shelf.Tests.{cases-bool, cases-eq, cases-lt, cond-true, cond-false, eqb-true}
+use Rattle.std.proofs.shelf.Tests.{cases-eq, cases-lt}
 use Rattle.tariffs.specs.declared.entries.Entry.{Entry}
 use Rattle.tariffs.specs.declared.entries.Entries.{Entries}
-use Rattle.tariffs.specs.Entries.{entry, next, placeIn, entryOf, leftAt, left, lowered, loweredAt, spent}
+use Rattle.tariffs.specs.Entries.{entry, placeIn, entryOf, leftAt, left, lowered, loweredAt, spent}
 use Rattle.tariffs.specs.Allowed.{TakesFromOne}
 use Rattle.tariffs.proofs.Places.{same-place, place-has}
 

@@ -1,6 +1,5 @@
 use mathlib.Core.Path.{_≡_, sym, ap}
-use Prim.Native.Nat.{_-_, _*_, _≤_}
-use native.Mathlib.Omega.{arith}
+use Prim.Native.Nat.{_-_}
 use borrow.Author.Needs.{needs}
 use Rattle.tariffs.proofs.Bounds.{fee-le}
 use Rattle.tariffs.proofs.allowance.AllowanceTariff.quote.Needs as need

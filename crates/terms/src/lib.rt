@@ -1,4 +1,4 @@
-//! What a contract is: families, kinds, series, prices and steps, and why a call is refused.
+//! What a contract is: families, kinds, months, prices and steps, and why a call is refused.
 mod family;
 mod kinds;
 mod month;
@@ -8,13 +8,25 @@ mod steps;
 mod values;
 
 pub use family::Family;
+pub use family::FamilyDebug;
+pub use family::FamilyPartialEq;
 pub use kinds::AccountKind;
+pub use kinds::AccountKindDebug;
+pub use kinds::AccountKindPartialEq;
 pub use kinds::SeriesKind;
+pub use kinds::SeriesKindDebug;
+pub use kinds::SeriesKindPartialEq;
 pub use kinds::Size;
+pub use kinds::SizeDebug;
+pub use kinds::SizePartialEq;
 pub use month::Month;
 pub use price::Price;
 pub use refusal::NO_ACCOUNT;
 pub use refusal::Reason;
+pub use refusal::ReasonDebug;
+pub use refusal::ReasonPartialEq;
 pub use refusal::Refusal;
+pub use refusal::RefusalDebug;
+pub use refusal::RefusalPartialEq;
 pub use steps::StepBand;
 pub use steps::StepTable;

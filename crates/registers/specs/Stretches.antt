@@ -1,6 +1,6 @@
 -- Rows in three parts: those before the key a, those from a to below b, and the rest.
 use mathlib.Core.Path.{_≡_}
-use Prim.Native.Nat.{ℕ, _+_}
+use Prim.Native.Nat.{ℕ, _+_, _-_}
 use mathlib.Core.List.{List, _++_}
 use lib.ListN.{length, take, drop}
 use Rattle.std.specs.Finite.{zipped}
@@ -23,6 +23,10 @@ rest a b rs = onwards b (onwards a rs)
 pub record StretchAt {V : Type 0} (a b : ℕ) (rs : Rows V) (from to : ℕ) : Type 0 where
   pub first : from ≡ length (front a rs)
   pub last : to ≡ from + length (stretch a b rs)
+
+-- a list with ws from the place `from` to the place `to`
+abbrev pub patched : {X : Type 0} → ℕ → ℕ → List X → List X → List X
+patched from to ws xs = take from xs ++ (ws ++ drop (to - from) (drop from xs))
 
 -- the rows with other contents in the stretch, as many
 abbrev pub rewritten : {V : Type 0} → ℕ → ℕ → List V → Rows V → Rows V

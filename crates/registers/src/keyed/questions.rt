@@ -1,5 +1,6 @@
 ghost use mathlib.Core.Path.{_≡_};
 ghost use mathlib.Core.List.{[]};
+ghost use Prim.Native.Nat.{_≤_};
 ghost use lib.Dec.{ltb};
 ghost use lib.ListN.{length};
 ghost use Rattle.registers.specs.Held.{rowsOf, roomOf};
@@ -31,9 +32,10 @@ impl<T: Drop> Register<T> {
         self.room
     }
 
-    /// How many rows it has.
+    /// How many rows it has, no more than its room.
     pub fn len(&self) -> usize
-        ensures { λ r. ⌜ r ≡ length (rowsOf (now (self .entry))) ⌝ }
+        ensures value { λ r. ⌜ r ≡ length (rowsOf (now (self .entry))) ⌝ }
+        ensures bound { λ r. ⌜ r ≤ roomOf (now (self .entry)) ⌝ }
     {
         self.keys.len()
     }

@@ -1,15 +1,16 @@
 // Rows in their order, and the stretches between two keys.
 ghost use mathlib.Core.Path.{_≡_};
-ghost use mathlib.Core.List.{_++_};
+ghost use mathlib.Core.List.{List, _++_};
+ghost use Prim.Native.Nat.{ℕ, _-_, _≤_};
 ghost use lib.ListN.{length};
 ghost use ghost.Atoms.{sem};
 ghost use denote.Array.{Array};
 ghost use denote.Follow.{follows};
 ghost use denote.Ref.{name};
-ghost use Rattle.std.specs.Finite.{nth};
+ghost use Rattle.std.specs.Finite.{nth, zipped};
 ghost use Rattle.std.specs.Options.{mapped};
-ghost use Rattle.registers.specs.Rows.{below, keysIn, contentsIn};
-ghost use Rattle.registers.specs.Stretches.{front, stretch, rest, StretchAt};
+ghost use Rattle.registers.specs.Rows.{below, keysIn, contentsIn, Rising};
+ghost use Rattle.registers.specs.Stretches.{front, stretch, rest, StretchAt, patched, rewritten};
 ghost use Rattle.registers.specs.Held.{rowsOf, roomOf, contentsOf, withContents};
 ghost use Rattle.registers.specs.contracts.keyed.Register.{the-row};
 use super::Register;
@@ -35,7 +36,9 @@ impl<T: Drop> Register<T> {
 
     /// The places of the rows whose keys lie from `a` to below `b`.
     pub fn stretch(&self, a: u64, b: u64) -> Span
-        ensures { λ r. ⌜ StretchAt a b (rowsOf (now (self .entry))) (r .from) (r .to) ⌝ }
+        ensures places { λ r. ⌜ StretchAt a b (rowsOf (now (self .entry))) (r .from) (r .to) ⌝ }
+        ensures forward { λ r. ⌜ r .from ≤ r .to ⌝ }
+        ensures within { λ r. ⌜ r .to ≤ length (rowsOf (now (self .entry))) ⌝ }
     {
         let from = self.lower_bound(a);
         if b <= a {
@@ -47,16 +50,19 @@ impl<T: Drop> Register<T> {
         }
     }
 
-    /// The keys, row by row.
+    /// The keys, row by row: each is greater than the one before it.
     pub fn keys(&self) -> &[u64]
-        ensures { λ r. ⌜ now r ≡ keysIn (rowsOf (now (self .entry))) ⌝ }
+        ensures value { λ r. ⌜ now r ≡ keysIn (rowsOf (now (self .entry))) ⌝ }
+        ensures len { λ r. ⌜ length (now r) ≡ length (rowsOf (now (self .entry))) ⌝ }
+        ensures order { λ _. ⌜ Rising 0 (rowsOf (now (self .entry))) ⌝ }
     {
         self.keys.as_slice()
     }
 
     /// The contents, row by row.
     pub fn contents(&self) -> &[T]
-        ensures { λ r. ⌜ now r ≡ contentsIn (rowsOf (now (self .entry))) ⌝ }
+        ensures value { λ r. ⌜ now r ≡ contentsIn (rowsOf (now (self .entry))) ⌝ }
+        ensures len { λ r. ⌜ length (now r) ≡ length (rowsOf (now (self .entry))) ⌝ }
     {
         self.contents.as_slice()
     }
@@ -66,14 +72,18 @@ impl<T: Drop> Register<T> {
         ensures { λ r. ⌜ now r ≡ contentsIn (stretch a b (rowsOf (now (self .entry)))) ⌝ }
     {
         let Span { from, to } = self.stretch(a, b);
-        let all = self.contents.as_slice();
+        let all = self.contents();
         &all[from..to]
     }
 
-    /// Lends the contents for writing, row by row. The keys stay.
+    /// Lends the contents for writing, row by row: the register then holds what was written, under the same keys.
+    /// What is written to the part from one place of a stretch to the other are the new contents of that stretch.
     pub fn contents_mut(&mut self) -> &mut [T]
         ensures follows { λ r. sem 𝓤 H A (follows (the-row T·row) (Array T·row 0) (name (self .entry)) (name r) (withContents (now (self .entry)))) }
         ensures value { λ r. ⌜ now r ≡ contentsIn (rowsOf (now (self .entry))) ⌝ }
+        ensures len { λ r. ⌜ length (now r) ≡ length (rowsOf (now (self .entry))) ⌝ }
+        ensures rows { λ _. ⌜ ((ws : List T) → length ws ≡ length (rowsOf (now (self .entry))) → rowsOf (withContents (now (self .entry)) ws) ≡ zipped (keysIn (rowsOf (now (self .entry)))) ws) ⌝ }
+        ensures part { λ _. ⌜ ((a b from to : ℕ) (ws : List T) → StretchAt a b (rowsOf (now (self .entry))) from to → length ws ≡ to - from → rowsOf (withContents (now (self .entry)) (patched from to ws (contentsIn (rowsOf (now (self .entry)))))) ≡ rewritten a b ws (rowsOf (now (self .entry)))) ⌝ }
     {
         self.contents.as_mut_slice()
     }

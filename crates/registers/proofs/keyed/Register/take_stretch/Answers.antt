@@ -1,4 +1,4 @@
-use mathlib.Core.Path.{_≡_, refl, sym, subst, ap, ap₂, _∙_}
+use mathlib.Core.Path.{_≡_, refl, sym, subst, ap₂, _∙_}
 use Prim.Native.Nat.{_≤_}
 use native.Mathlib.Omega.{arith}
 use lib.ListN.{length}
@@ -7,51 +7,39 @@ use Rattle.registers.specs.Keys.{Ascending}
 use Rattle.registers.specs.Held.{keysOf, contentsOf, rowsOf}
 use Rattle.registers.proofs.Always.{count, count-keys, level}
 use Rattle.registers.proofs.Cuts.{zipped-cut, ascending-cut}
-use Rattle.registers.proofs.Spans.{ends, left}
+use Rattle.registers.proofs.Spans.{left}
 use Rattle.registers.proofs.keyed.Register.take_stretch.Needs as need
 
 pub cut-requires : need.cut-requires
-cut-requires g c κs =
-    let r = c .args .self .now in
-    let s = c .stretch-from .result in
-    let h = ends (c .args .a) (c .args .b) (rowsOf r) (s .from) (s .to) (c .stretch-from .ensures) in
-    let n = count r in
-    (h .0, omega arith)
+cut-requires g c κs = let h = c .stretch-from .ensures in let n = count (c .args .self .now) in (h .forward, omega arith)
 
 pub cut-requires-2 : need.cut-requires-2
-cut-requires-2 g c κs =
-    let r = c .args .self .now in
-    let s = c .stretch-from .result in
-    let h = ends (c .args .a) (c .args .b) (rowsOf r) (s .from) (s .to) (c .stretch-from .ensures) in
-    let n = count r in
-    let e = r .even in
-    (h .0, omega arith)
+cut-requires-2 g c κs = let h = c .stretch-from .ensures in let n = count (c .args .self .now) in let e = c .args .self .now .even in (h .forward, omega arith)
 
 pub ghost-self : need.ghost-self
 ghost-self g c =
     let r = c .args .self .now in
     let s = c .stretch-from .result in
+    let h = c .stretch-from .ensures in
     let f = r .fits in
     let e = r .even in
-    let h = ends (c .args .a) (c .args .b) (rowsOf r) (s .from) (s .to) (c .stretch-from .ensures) in
     let k : s .to ≤ length (keysOf r) = omega (arith, count-keys r) in
     let x = c .cut .ensures .len in
     let y = c .cut-2 .ensures .len in
     let z = c .cut .ensures .room in
     let w = c .cut-2 .ensures .room in
-    (omega arith, ((omega arith, omega arith, omega arith), (subst Ascending (sym (c .cut .ensures .items)) (ascending-cut (keysOf r) (s .from) (s .to) (r .ascends) (h .0) k), tt)))
+    (omega arith, ((omega arith, omega arith, omega arith), (subst Ascending (sym (c .cut .ensures .items)) (ascending-cut (keysOf r) (s .from) (s .to) (r .ascends) (h .forward) k), tt)))
 
 pub returns : need.returns
 unfolding rowsOf
 returns g c =
     let r = c .args .self .now in
     let s = c .stretch-from .result in
-    let p = c .stretch-from .ensures in
-    let h = ends (c .args .a) (c .args .b) (rowsOf r) (s .from) (s .to) p in
+    let h = c .stretch-from .ensures in
     let k : s .from ≤ length (keysOf r) = omega (arith, count-keys r) in
-    let q = p .last in
+    let q = h .places .last in
     record {
       answer = omega arith;
-      rows = ap₂ zipped (c .cut .ensures .items) (c .cut-2 .ensures .items) ∙ zipped-cut (keysOf r) (contentsOf r) (s .from) (s .to) (level r) k ∙ left (c .args .a) (c .args .b) (rowsOf r) (s .from) (s .to) p;
+      rows = ap₂ zipped (c .cut .ensures .items) (c .cut-2 .ensures .items) ∙ zipped-cut (keysOf r) (contentsOf r) (s .from) (s .to) (level r) k ∙ left (c .args .a) (c .args .b) (rowsOf r) (s .from) (s .to) (h .places);
       room = refl;
     }

@@ -11,6 +11,8 @@ use Rattle.std.specs.Finite.{zipped}
 use Rattle.std.specs.Options.{isSome}
 use Rattle.std.specs.declared.option.Option.{Option}
 use Rattle.std.specs.declared.option.Option.the-variants.{Some, None}
+use Rattle.std.specs.Results.{Cases}
+use Rattle.std.specs.declared.result.Result.{Result}
 use Rattle.std.specs.declared.result.Result.the-variants.{Ok, Err}
 use Rattle.registers.specs.Keys.{Found}
 use Rattle.registers.specs.Rows.{lookup, put, without, below, placeFor}
@@ -55,10 +57,14 @@ module _ {X : Type 0} (r : Register X) (k i : ℕ) where
   unfolding rowsOf
   stays f = without-missing k (keysOf r) (contentsOf r) i (f .1) (level r) (f .0) (λ l. f .2 i (omega arith) l)
 
-  pub bounds-found : Found (keysOf r) k (Ok i) → i ≡ below k (rowsOf r)
+  bounds-found : Found (keysOf r) k (Ok i) → i ≡ below k (rowsOf r)
   unfolding rowsOf
   bounds-found f = below-at k (keysOf r) (contentsOf r) i (before-found (keysOf r) k i (r .ascends) f) (level r) (let l = f .0 in omega arith) (λ l. let e = f .1 in omega arith)
 
-  pub bounds-missing : Found (keysOf r) k (Err i) → i ≡ below k (rowsOf r)
+  bounds-missing : Found (keysOf r) k (Err i) → i ≡ below k (rowsOf r)
   unfolding rowsOf
   bounds-missing f = below-at k (keysOf r) (contentsOf r) i (f .1) (level r) (f .0) (λ l. let h = f .2 i (omega arith) l in omega arith)
+
+pub bounds : {X : Type 0} (r : Register X) (k : ℕ) (o : Result ℕ ℕ) → Found (keysOf r) k o → Cases o (λ i. i ≡ below k (rowsOf r)) (λ i. i ≡ below k (rowsOf r))
+bounds r k (Ok i) f = bounds-found r k i f
+bounds r k (Err i) f = bounds-missing r k i f

@@ -43,9 +43,13 @@ module _ {V : Type 0} (a b : ℕ) (rs : Rows V) (from to : ℕ) (p : StretchAt a
       let l = length-drop (below a rs) rs in
       (omega arith, omega arith)
 
+  -- the rows before the stretch, and those after it
+  pub cuts : (take from rs ≡ front a rs) × (drop to rs ≡ rest a b rs)
+  cuts = (ap (λ (m : ℕ). take m rs) from-is, ap (λ (m : ℕ). drop m rs) to-is ∙ sym (rest-is a b rs))
+
   -- what is left without the stretch
   pub left : take from rs ++ drop to rs ≡ front a rs ++ rest a b rs
-  left = ap₂ (λ (m n : ℕ). take m rs ++ drop n rs) from-is to-is ∙ ap (λ l. front a rs ++ l) (sym (rest-is a b rs))
+  left = ap₂ (λ (x y : Rows V). x ++ y) (cuts .0) (cuts .1)
 
   -- the stretch itself
   pub held : between from to rs ≡ stretch a b rs
@@ -90,7 +94,7 @@ module _ {X : Type 0} (r : Register X) (a b from to : ℕ) (p : StretchAt a b (r
       ∙ rows-with r (patched from to ws cs) long
       ∙ ap (λ (vs : List X). zipped (keysOf r) (take from cs ++ (ws ++ vs))) tail
       ∙ rows-mid r ws from to (h .0) (omega arith) n
-      ∙ ap₂ (λ (x y : Rows X). x ++ (zipped (between from to (keysOf r)) ws ++ y)) (ap (λ (m : ℕ). take m rs) (from-is a b rs from to p)) (ap (λ (m : ℕ). drop m rs) (to-is a b rs from to p) ∙ sym (rest-is a b rs))
+      ∙ ap₂ (λ (x y : Rows X). x ++ (zipped (between from to (keysOf r)) ws ++ y)) (cuts a b rs from to p .0) (cuts a b rs from to p .1)
       ∙ ap (λ (ks : List ℕ). front a rs ++ (zipped ks ws ++ rest a b rs)) keys-held
 
 -- other contents, as many

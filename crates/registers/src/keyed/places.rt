@@ -1,17 +1,22 @@
 // Rows by their places.
 ghost use mathlib.Core.Path.{_≡_};
-ghost use Prim.Native.Nat.{_<_};
-ghost use lib.ListN.{length, getD, set};
+ghost use mathlib.Core.List.{_++_};
+ghost use Prim.Native.Nat.{_<_, _≤_};
+ghost use lib.ListN.{length, getD, set, take, drop};
 ghost use Rattle.std.specs.Holes.{inserted, removed};
+ghost use Rattle.std.specs.Results.{Cases};
 ghost use Rattle.std.specs.declared.result.Result.the-variants.{Err};
 ghost use Rattle.registers.specs.Keys.{Found};
+ghost use Rattle.registers.specs.Rows.{below};
 ghost use Rattle.registers.specs.Held.{keysOf, contentsOf, rowsOf, roomOf};
 use super::Register;
+use crate::cut::cut;
 
 impl<T: Drop> Register<T> {
     // Where the key stands, or where it goes.
     pub(super) fn find(&self, key: u64) -> Result<usize, usize>
-        ensures { λ r. ⌜ Found (keysOf (now (self .entry))) key r ⌝ }
+        ensures place { λ r. ⌜ Found (keysOf (now (self .entry))) key r ⌝ }
+        ensures bound { λ r. ⌜ Cases r (λ i. i ≡ below key (rowsOf (now (self .entry)))) (λ i. i ≡ below key (rowsOf (now (self .entry)))) ⌝ }
     {
         self.keys.as_slice().binary_search(&key)
     }
@@ -52,5 +57,16 @@ impl<T: Drop> Register<T> {
     {
         self.keys.remove(i);
         self.contents.remove(i)
+    }
+
+    // Takes the rows from the place `from` to the place `to` out.
+    pub(super) fn cut_rows(&mut self, from: usize, to: usize)
+        requires forward { ⌜ from ≤ to ⌝ }
+        requires within { ⌜ to ≤ length (rowsOf (now self)) ⌝ }
+        ensures rows { λ _. ⌜ rowsOf (now (self .exit)) ≡ take from (rowsOf (now (self .entry))) ++ drop to (rowsOf (now (self .entry))) ⌝ }
+        ensures room { λ _. ⌜ roomOf (now (self .exit)) ≡ roomOf (now (self .entry)) ⌝ }
+    {
+        cut(&mut self.keys, from, to);
+        cut(&mut self.contents, from, to);
     }
 }

@@ -1,7 +1,6 @@
 ghost use mathlib.Core.Path.{_≡_};
 ghost use mathlib.Core.List.{[]};
 ghost use Prim.Native.Nat.{_≤_};
-ghost use lib.Dec.{ltb};
 ghost use lib.ListN.{length};
 ghost use Rattle.registers.specs.Held.{rowsOf, roomOf};
 use super::Register;
@@ -37,13 +36,6 @@ impl<T: Drop> Register<T> {
         ensures value { λ r. ⌜ r ≡ length (rowsOf (now (self .entry))) ⌝ }
         ensures bound { λ r. ⌜ r ≤ roomOf (now (self .entry)) ⌝ }
     {
-        self.keys.len()
-    }
-
-    /// Whether there is place for one more row.
-    pub fn has_place(&self) -> bool
-        ensures { λ r. ⌜ r ≡ ltb (length (rowsOf (now (self .entry)))) (roomOf (now (self .entry))) ⌝ }
-    {
-        self.len() < self.room
+        self.keys().len()
     }
 }

@@ -1,6 +1,8 @@
 // A register's rows, by their keys.
 ghost use mathlib.Core.Path.{_≡_};
 ghost use mathlib.Core.Bool.{true, cond};
+ghost use lib.Dec.{ltb};
+ghost use lib.ListN.{length};
 ghost use ghost.Atoms.{sem};
 ghost use denote.Follow.{follows-so};
 ghost use denote.Ref.{name};
@@ -31,6 +33,13 @@ impl<T: Drop> Register<T> {
             Err(_) => self.contents.len(),
         };
         self.contents.get_mut(i)
+    }
+
+    /// Whether there is place for one more row.
+    pub fn has_place(&self) -> bool
+        ensures { λ r. ⌜ r ≡ ltb (length (rowsOf (now (self .entry)))) (roomOf (now (self .entry))) ⌝ }
+    {
+        self.len() < self.room
     }
 
     /// Puts the content under the key, in place of what stands there. Where there is no place for one more row, it is

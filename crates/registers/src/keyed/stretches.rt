@@ -2,7 +2,7 @@
 ghost use mathlib.Core.Path.{_≡_};
 ghost use mathlib.Core.List.{List, _++_};
 ghost use Prim.Native.Nat.{ℕ, _-_, _≤_};
-ghost use lib.ListN.{length};
+ghost use lib.ListN.{length, take, drop};
 ghost use ghost.Atoms.{sem};
 ghost use denote.Array.{Array};
 ghost use denote.Follow.{follows};
@@ -11,10 +11,9 @@ ghost use Rattle.std.specs.Finite.{nth, zipped};
 ghost use Rattle.std.specs.Options.{mapped};
 ghost use Rattle.registers.specs.Rows.{below, keysIn, contentsIn, Rising};
 ghost use Rattle.registers.specs.Stretches.{front, stretch, rest, StretchAt, patched, rewritten};
-ghost use Rattle.registers.specs.Held.{rowsOf, roomOf, contentsOf, withContents};
+ghost use Rattle.registers.specs.Held.{rowsOf, roomOf, withContents};
 ghost use Rattle.registers.specs.contracts.keyed.Register.{the-row};
 use super::Register;
-use crate::cut::cut;
 
 /// The places of a stretch: from the first to before the last.
 #[derive(Clone, Copy)]
@@ -37,6 +36,7 @@ impl<T: Drop> Register<T> {
     /// The places of the rows whose keys lie from `a` to below `b`.
     pub fn stretch(&self, a: u64, b: u64) -> Span
         ensures places { λ r. ⌜ StretchAt a b (rowsOf (now (self .entry))) (r .from) (r .to) ⌝ }
+        ensures left { λ r. ⌜ take (r .from) (rowsOf (now (self .entry))) ++ drop (r .to) (rowsOf (now (self .entry))) ≡ front a (rowsOf (now (self .entry))) ++ rest a b (rowsOf (now (self .entry))) ⌝ }
         ensures forward { λ r. ⌜ r .from ≤ r .to ⌝ }
         ensures within { λ r. ⌜ r .to ≤ length (rowsOf (now (self .entry))) ⌝ }
     {
@@ -54,6 +54,7 @@ impl<T: Drop> Register<T> {
     pub fn keys(&self) -> &[u64]
         ensures value { λ r. ⌜ now r ≡ keysIn (rowsOf (now (self .entry))) ⌝ }
         ensures len { λ r. ⌜ length (now r) ≡ length (rowsOf (now (self .entry))) ⌝ }
+        ensures bound { λ r. ⌜ length (now r) ≤ roomOf (now (self .entry)) ⌝ }
         ensures order { λ _. ⌜ Rising 0 (rowsOf (now (self .entry))) ⌝ }
     {
         self.keys.as_slice()
@@ -95,8 +96,7 @@ impl<T: Drop> Register<T> {
         ensures room { λ _. ⌜ roomOf (now (self .exit)) ≡ roomOf (now (self .entry)) ⌝ }
     {
         let Span { from, to } = self.stretch(a, b);
-        cut(&mut self.keys, from, to);
-        cut(&mut self.contents, from, to);
+        self.cut_rows(from, to);
         to - from
     }
 
@@ -104,8 +104,9 @@ impl<T: Drop> Register<T> {
     pub fn key_at(&self, place: usize) -> Option<u64>
         ensures { λ r. ⌜ r ≡ nth (keysIn (rowsOf (now (self .entry)))) place ⌝ }
     {
-        if place < self.keys.len() {
-            Some(self.keys[place])
+        let keys = self.keys();
+        if place < keys.len() {
+            Some(keys[place])
         } else {
             None
         }

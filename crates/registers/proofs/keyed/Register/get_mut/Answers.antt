@@ -28,13 +28,13 @@ returns g c =
     elim (c .match-find .came) [
       | in-Ok w ↦
           let j = w .in-Ok .i in
-          let f = w .in-Ok .ensures tt in
+          let f = w .in-Ok .ensures tt .place in
           let e : i ≡ j = w .i-is in
           let here : isSome o ≡ true = s .0 ∙ lt-ltb i (r .contents .len) (omega (arith, f .0)) in
           let seen : Found (keysOf r) k (Ok i) = (omega (arith, f .0), ap (λ (p : ℕ). getD (keysOf r) p 0) e ∙ f .1) in
           ((refl, (λ v. ((λ t. replaces r k i _ v seen refl refl), refl)), same), lends-found r k i o here (s .1) seen)
       | in-Err w ↦
-          let f = w .in-Err .ensures tt in
+          let f = w .in-Err .ensures tt .place in
           let l = w .len-i .ensures in
           let e : i ≡ w .len-i .result = w .i-is in
           let gone : isSome o ≡ false = s .0 ∙ le-ltb i (r .contents .len) (omega arith) in

@@ -1,4 +1,5 @@
 use mathlib.Core.Path.{sym, _∙_}
+use native.Mathlib.Omega.{arith}
 use Rattle.registers.proofs.Always.{count, keys-are, rising}
 use Rattle.registers.proofs.keyed.Register.keys.Needs as need
 
@@ -6,4 +7,6 @@ pub returns : need.returns
 returns g c =
     let r = c .args .self .now in
     let s = c .as-slice .ensures in
-    record { value = s .value ∙ keys-are r; len = s .len ∙ sym (count r); order = rising r }
+    let l = s .len in
+    let f = r .fits in
+    record { value = s .value ∙ keys-are r; len = l ∙ sym (count r); bound = omega arith; order = rising r }

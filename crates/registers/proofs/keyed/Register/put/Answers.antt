@@ -12,7 +12,7 @@ use Rattle.registers.proofs.keyed.Register.put.Needs as need
 pub returns-in-Ok : need.returns-in-Ok
 returns-in-Ok g c =
     let r = c .args .self .now in
-    let f = c .in-Ok .ensures tt in
+    let f = c .in-Ok .ensures tt .place in
     let p = place-found r (c .args .key) (c .in-Ok .i) f in
     let e = c .replace-at .ensures in
     record {
@@ -25,7 +25,7 @@ pub returns-then-not-has-place : need.returns-then-not-has-place
 returns-then-not-has-place g c =
     let r = c .args .self .now in
     let t = c .if-not-has-place .taken in
-    let p : placeFor (c .args .key) (rowsOf r) (roomOf r) ≡ false = place-missing r (c .args .key) (c .in-Err .i) (c .in-Err .ensures tt) ∙ sym (c .has-place .ensures) ∙ t in
+    let p : placeFor (c .args .key) (rowsOf r) (roomOf r) ≡ false = place-missing r (c .args .key) (c .in-Err .i) (c .in-Err .ensures tt .place) ∙ sym (c .has-place .ensures) ∙ t in
     record {
       answer = sym (ap (λ (b : Bool). answered b (c .args .content)) p);
       rows = sym (cond-false _ _ _ p);
@@ -35,7 +35,7 @@ returns-then-not-has-place g c =
 pub returns-in-Err : need.returns-in-Err
 returns-in-Err g c =
     let r = c .args .self .now in
-    let f = c .in-Err .ensures tt in
+    let f = c .in-Err .ensures tt .place in
     let t = c .if-not-has-place .left in
     let p : placeFor (c .args .key) (rowsOf r) (roomOf r) ≡ true = place-missing r (c .args .key) (c .in-Err .i) f ∙ sym (c .has-place .ensures) ∙ t in
     let e = c .insert-at .ensures in

@@ -5,7 +5,7 @@ use lib.ListN.{length}
 use Rattle.registers.specs.Stretches.{stretch, StretchAt}
 use Rattle.registers.specs.Held.{rowsOf}
 use Rattle.registers.proofs.Stretches.{length-front, length-stretch, below-onwards, onwards-none}
-use Rattle.registers.proofs.Spans.{ends}
+use Rattle.registers.proofs.Spans.{ends, left}
 use Rattle.registers.proofs.keyed.Register.stretch.Needs as need
 
 pub returns-then-b-a : need.returns-then-b-a
@@ -18,7 +18,7 @@ returns-then-b-a g c =
     let y = onwards-none a b rs (c .if-b-a .taken) in
     let p : StretchAt a b rs from from = record { first = c .lower-bound-from .ensures ∙ sym (length-front a rs); last = omega arith } in
     let h = ends a b rs from from p in
-    record { places = p; forward = h .0; within = h .1 }
+    record { places = p; left = left a b rs from from p; forward = h .0; within = h .1 }
 
 pub returns : need.returns
 returns g c =
@@ -32,4 +32,4 @@ returns g c =
     let y = below-onwards a b rs (omega arith) in
     let p : StretchAt a b rs from to = record { first = c .lower-bound-from .ensures ∙ sym (length-front a rs); last = omega arith } in
     let h = ends a b rs from to p in
-    record { places = p; forward = h .0; within = h .1 }
+    record { places = p; left = left a b rs from to p; forward = h .0; within = h .1 }

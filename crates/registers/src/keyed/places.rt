@@ -7,7 +7,7 @@ ghost use Rattle.std.specs.Holes.{inserted, removed};
 ghost use Rattle.std.specs.Results.{Cases};
 ghost use Rattle.std.specs.declared.result.Result.the-variants.{Err};
 ghost use Rattle.registers.specs.Keys.{Found};
-ghost use Rattle.registers.specs.Rows.{below};
+ghost use Rattle.registers.specs.Rows.{below, keysIn};
 ghost use Rattle.registers.specs.Held.{keysOf, contentsOf, rowsOf, roomOf};
 use super::Register;
 use crate::cut::cut;
@@ -19,6 +19,13 @@ impl<T: Drop> Register<T> {
         ensures bound { λ r. ⌜ Cases r (λ i. i ≡ below key (rowsOf (now (self .entry)))) (λ i. i ≡ below key (rowsOf (now (self .entry)))) ⌝ }
     {
         self.keys.as_slice().binary_search(&key)
+    }
+
+    pub(super) fn key(&self, i: usize) -> u64
+        requires { ⌜ i < length (rowsOf (now self)) ⌝ }
+        ensures { λ r. ⌜ r ≡ getD (keysIn (rowsOf (now (self .entry)))) i 0 ⌝ }
+    {
+        self.keys()[i]
     }
 
     pub(super) fn content(&self, i: usize) -> &T

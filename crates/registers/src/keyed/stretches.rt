@@ -104,9 +104,8 @@ impl<T: Drop> Register<T> {
     pub fn key_at(&self, place: usize) -> Option<u64>
         ensures { λ r. ⌜ r ≡ nth (keysIn (rowsOf (now (self .entry)))) place ⌝ }
     {
-        let keys = self.keys();
-        if place < keys.len() {
-            Some(keys[place])
+        if place < self.len() {
+            Some(self.key(place))
         } else {
             None
         }

@@ -1,4 +1,4 @@
-use mathlib.Core.Path.{_≡_, sym, ap, ap₂, _∙_}
+use mathlib.Core.Path.{refl, sym, ap, _∙_}
 use Prim.Native.Nat.{ℕ, _+_}
 use native.Mathlib.Omega.{arith}
 use Rattle.registers.specs.Rows.{put, without, lookup}
@@ -51,6 +51,7 @@ rewrite-laws {V} = record {
 
 pub returns : need.returns
 returns g c = record {
+  answer = refl;
   put = put-laws;
   take = take-laws;
   order = record { once = λ rs i j o. once 0 rs i j o; found = λ rs i o. lookup-at 0 rs i o };

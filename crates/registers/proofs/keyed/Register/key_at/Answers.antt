@@ -1,12 +1,25 @@
-use mathlib.Core.Path.{sym, ap, _∙_}
-use mathlib.Core.List.{List}
+use mathlib.Core.Path.{ap, sym, _∙_}
+use native.Mathlib.Omega.{arith}
 use Prim.Native.Nat.{ℕ}
-use Rattle.std.specs.Finite.{nth}
+use Rattle.std.specs.declared.option.Option.the-variants.{Some}
+use Rattle.std.proofs.shelf.Lists.{length-map}
 use Rattle.std.proofs.shelf.Maps.{nth-getD, nth-past}
+use Rattle.registers.specs.Rows.{keysIn}
+use Rattle.registers.specs.Held.{rowsOf}
 use Rattle.registers.proofs.keyed.Register.key_at.Needs as need
 
-pub returns-then-place-keys : need.returns-then-place-keys
-returns-then-place-keys g c = sym (nth-getD (c .keys-keys .result .now) (c .args .place) 0 (c .if-place-keys .taken)) ∙ ap (λ (ks : List ℕ). nth ks (c .args .place)) (c .keys-keys .ensures .value)
+pub returns-then-place-len : need.returns-then-place-len
+returns-then-place-len g c =
+    let rs = rowsOf (c .args .self .now) in
+    let n = length-map rs (λ (r : ℕ × g .T .Denot). r .0) in
+    let l = c .len .ensures .value in
+    let t = c .if-place-len .taken in
+    ap Some (c .key .ensures) ∙ sym (nth-getD (keysIn rs) (c .args .place) 0 (omega arith))
 
-pub returns-else-place-keys : need.returns-else-place-keys
-returns-else-place-keys g c = sym (nth-past (c .keys-keys .result .now) (c .args .place) (c .if-place-keys .left)) ∙ ap (λ (ks : List ℕ). nth ks (c .args .place)) (c .keys-keys .ensures .value)
+pub returns-else-place-len : need.returns-else-place-len
+returns-else-place-len g c =
+    let rs = rowsOf (c .args .self .now) in
+    let n = length-map rs (λ (r : ℕ × g .T .Denot). r .0) in
+    let l = c .len .ensures .value in
+    let t = c .if-place-len .left in
+    sym (nth-past (keysIn rs) (c .args .place) (omega arith))

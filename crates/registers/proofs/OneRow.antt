@@ -50,6 +50,16 @@ unfolding lookup without
 lookup-without-other k j lo [] o n = refl
 lookup-without-other k j lo (r ∷ rs) o n = let ih = lookup-without-other k j (suc (r .0)) rs (o .1) n in let z = lookup-below j (suc (r .0)) rs (o .1) in grind (arith, tells)
 
+pub without-absent : {V : Type 0} (k : ℕ) (rs : Rows V) → lookup rs k ≡ None → without k rs ≡ rs
+unfolding lookup without
+without-absent k [] e = refl
+without-absent {V} k (r ∷ rs) e = ways (ltb k (r .0)) (eqb k (r .0)) (without-absent k rs) e
+  where
+    ways : (b c : Bool) → (lookup rs k ≡ None → without k rs ≡ rs) → cond b None (cond c (Some (r .1)) (lookup rs k)) ≡ None → cond b (r ∷ rs) (cond c rs (r ∷ without k rs)) ≡ r ∷ rs
+    ways true c ih e = refl
+    ways false true ih e = absurd (let z : _≡_ {A = ℕ} 0 1 = cc in omega arith)
+    ways false false ih e = ap (λ (t : Rows V). r ∷ t) (ih e)
+
 pub rising-without : {V : Type 0} (k lo : ℕ) (rs : Rows V) → Rising lo rs → Rising lo (without k rs)
 unfolding without
 rising-without k lo [] o = tt

@@ -26,6 +26,7 @@ pub record PutLaws (V : Type 0) : Type 0 where
 pub record TakeLaws (V : Type 0) : Type 0 where
   pub same : (k : ℕ) (rs : Rows V) → Rising 0 rs → lookup (without k rs) k ≡ None
   pub other : (k j : ℕ) (rs : Rows V) → Rising 0 rs → (j ≡ k → ⊥) → lookup (without k rs) j ≡ lookup rs j
+  pub absent : (k : ℕ) (rs : Rows V) → lookup rs k ≡ None → without k rs ≡ rs
   pub order : (k : ℕ) (rs : Rows V) → Rising 0 rs → Rising 0 (without k rs)
   pub count : (k : ℕ) (rs : Rows V) → length (without k rs) + share (λ _ _. 1) k (lookup rs k) ≡ length rs
   pub sum : (f : ℕ → V → ℕ) (k : ℕ) (rs : Rows V) → total f (without k rs) + share f k (lookup rs k) ≡ total f rs

@@ -4,7 +4,7 @@ use native.Mathlib.Omega.{arith}
 use Rattle.registers.specs.Rows.{put, without, lookup}
 use Rattle.registers.specs.Sums.{share}
 use Rattle.registers.specs.Laws.{PutLaws, TakeLaws, OrderLaws, StretchLaws, RewriteLaws}
-use Rattle.registers.proofs.OneRow.{lookup-put-same, lookup-put-other, rising-put, lookup-without-same, lookup-without-other, rising-without, once, lookup-at}
+use Rattle.registers.proofs.OneRow.{lookup-put-same, lookup-put-other, rising-put, lookup-without-same, lookup-without-other, without-absent, rising-without, once, lookup-at}
 use Rattle.registers.proofs.Sums.{total-put, total-without, totalℤ-put, totalℤ-without, total-ones}
 use Rattle.registers.proofs.Stretches.{parts, kept, lookup-others, rising-others, length-others, total-others, totalℤ-others, keys-rewritten, lookup-rewritten, total-rewritten, totalℤ-rewritten}
 use Rattle.registers.proofs.laws.register_laws.Needs as need
@@ -23,6 +23,7 @@ pub take-laws : {V : Type 0} → TakeLaws V
 take-laws {V} = record {
   same = λ k rs o. lookup-without-same k 0 rs o;
   other = λ k j rs o n. lookup-without-other k j 0 rs o n;
+  absent = without-absent;
   order = λ k rs o. rising-without k 0 rs o;
   count = λ k rs. sym (ap (λ (n : ℕ). n + share (λ _ _. 1) k (lookup rs k)) (total-ones (without k rs))) ∙ total-without (λ _ _. 1) k rs ∙ total-ones rs;
   sum = total-without;

@@ -1,5 +1,11 @@
 //! The library's calls for programs in C or Rust.
 ghost use Rattle.exports.specs.Exports.{Counted};
+
+mod runs;
+
+pub use runs::posbook_register_cut;
+pub use runs::posbook_register_find;
+pub use runs::posbook_register_toggle;
 use strikelists::strikes;
 
 /// `strikelists::strikes`, which answers the count of strikes, and 0 where it refuses: no list is empty.

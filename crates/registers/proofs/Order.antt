@@ -6,22 +6,10 @@ use Prim.Native.Nat.{ℕ, zero, suc, _+_, _-_, _<_, _≤_}
 use native.Mathlib.Omega.{arith}
 use lib.ListN.{length, getD, set, take, drop}
 use Rattle.std.specs.Holes.{between, inserted, removed}
-use Rattle.std.specs.Results.{Cases}
-use Rattle.std.specs.Places.{Located}
-use Rattle.std.specs.shelf.Sorted.{unsigned}
-use Rattle.std.proofs.shelf.Sorted.{searched}
-use Rattle.std.specs.declared.result.Result.{Result}
 use Rattle.std.specs.declared.result.Result.the-variants.{Ok, Err}
 use Rattle.std.proofs.shelf.Tests.{cases-lt, cases-order}
 use Rattle.std.proofs.shelf.Edits.{length-inserted, getD-inserted-below, getD-inserted-at, getD-inserted-above, length-removed, getD-removed-below, getD-removed-above}
 use Rattle.registers.specs.Keys.{Ascending, Found, Before}
-
-pub found-from : (ks : List ℕ) (key : ℕ) (r : Result ℕ ℕ) → Cases r (λ i. (i < length ks) × (getD ks i 0 ≡ key)) (λ i. (i ≤ length ks) × ((k : ℕ) → k < i → getD ks k 0 < key) × ((k : ℕ) → i ≤ k → k < length ks → key < getD ks k 0)) → Found ks key r
-found-from ks key (Ok i) f = f
-found-from ks key (Err i) f = f
-
-pub ascending-rises : (ks : List ℕ) → Ascending ks → (i j : ℕ) → i ≤ j → j < length ks → getD ks i 0 ≤ getD ks j 0
-ascending-rises ks a i j h l = ⊎-elim (λ e. omega (arith, ap (λ n. getD ks n 0) e)) (⊎-elim (λ lt. omega (arith, a i j lt l)) (λ gt. omega arith)) (cases-order i j)
 
 -- one key of the longer list, by its place
 above-at : (ks : List ℕ) (i key m : ℕ) → i < m → i ≤ length ks → getD (inserted ks i key) m 0 ≡ getD ks (m - 1) 0
@@ -64,11 +52,6 @@ ascending-removed ks i a l m n h k =
     (λ le. omega (arith, b, getD-removed-above ks i 0 m le l, a (m + 1) (n + 1) (omega arith) (omega arith)))
     (cases-lt m i))
     (cases-lt n i)
-
-pub found-in : (xs ys : List ℕ) (key : ℕ) (r : Result ℕ ℕ) → xs ≡ ys → Located (λ y. unsigned .cmp y key) xs r → Ascending ys → Found ys key r
-found-in xs ys key r e s a =
-    let P : List ℕ → Type 0 = λ l. Located (λ y. unsigned .cmp y key) l r in
-    found-from ys key r (searched ys key r (subst P e s) (ascending-rises ys a))
 
 pub before-found : (ks : List ℕ) (key i : ℕ) → Ascending ks → Found ks key (Ok i) → Before ks key i
 before-found ks key i a f m h = omega (arith, a m i h (f .0), f .1)

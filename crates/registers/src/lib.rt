@@ -2,6 +2,7 @@
 mod cut;
 mod keyed;
 mod laws;
+mod search;
 mod space;
 #[cfg(test)]
 mod tests;

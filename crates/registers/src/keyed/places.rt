@@ -11,6 +11,7 @@ ghost use Rattle.registers.specs.Rows.{below, keysIn};
 ghost use Rattle.registers.specs.Held.{keysOf, contentsOf, rowsOf, roomOf};
 use super::Register;
 use crate::cut::cut;
+use crate::search::search;
 
 impl<T: Drop> Register<T> {
     // Where the key stands, or where it goes.
@@ -18,7 +19,7 @@ impl<T: Drop> Register<T> {
         ensures place { λ r. ⌜ Found (keysOf (now (self .entry))) key r ⌝ }
         ensures bound { λ r. ⌜ Cases r (λ i. i ≡ below key (rowsOf (now (self .entry)))) (λ i. i ≡ below key (rowsOf (now (self .entry)))) ⌝ }
     {
-        self.keys.as_slice().binary_search(&key)
+        search(self.keys.as_slice(), key)
     }
 
     pub(super) fn key(&self, i: usize) -> u64

@@ -1,4 +1,5 @@
 //! The calls that move no cash: admit, list, close, delta and enter.
+#![tactic(auto)]
 mod admission;
 mod closing;
 mod deltas;

@@ -1,4 +1,5 @@
 //! The library's calls for programs in C or Rust.
+#![tactic(auto)]
 ghost use Rattle.exports.specs.Exports.{Counted};
 
 mod runs;

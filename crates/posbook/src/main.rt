@@ -1,4 +1,5 @@
 //! Reads a script, a command a line, calls the library and prints one answer line for each command.
+#![tactic(auto)]
 mod command;
 mod refusals;
 mod session;

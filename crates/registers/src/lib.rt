@@ -1,4 +1,5 @@
 //! Registers: rows of any content under strictly ascending keys, in space that a supplier hands over.
+#![tactic(auto)]
 mod keyed;
 mod laws;
 mod moves;

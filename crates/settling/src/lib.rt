@@ -1,4 +1,5 @@
 //! New marks of futures, and series that are settled.
+#![tactic(auto)]
 mod gain;
 mod gains;
 mod lines;

@@ -1,4 +1,5 @@
 //! Tariffs: what a side of a trade or an exercise costs.
+#![tactic(auto)]
 mod allowance;
 mod either;
 mod entries;

@@ -3,7 +3,7 @@ use Rattle.std.proofs.Common.{◌≡◌, ℕ, zero, suc, ◌+◌, ◌-◌, ◌*�
 use native.Mathlib.Nat.{mul-mod_left, add-mod_right}
 use Rattle.std.proofs.lemmas.Bool.{le-leb, lt-leb, ltb-true, leb-true, eqb-true, and_parts, cases_lt}
 use Rattle.terms.specs.declared.steps.StepBand.{StepBand}
-use Rattle.terms.specs.Steps.{step_in, joins, joined, Listed, Unbroken}
+use Rattle.terms.specs.Steps.{step_in, joins, joined, Unbroken}
 
 -- two multiples of s lie at least s apart
 gap : (s a b : ℕ) → a % s ≡ 0 → b % s ≡ 0 → a < b → a + s ≤ b

@@ -1,4 +1,6 @@
 //! What a contract is: families, kinds, months, prices and steps, and why a call is refused.
+#![tactic(auto)]
+
 mod family;
 mod kinds;
 mod month;

@@ -1,4 +1,4 @@
-use Rattle.std.proofs.Common.{◌≡◌, sym, ap, ◌∙◌}
+use Rattle.std.proofs.Common.{sym, ap, ◌∙◌}
 use Rattle.std.proofs.lemmas.List.{take_all}
 use Rattle.terms.specs.Steps.{step_in}
 use Rattle.terms.specs.Families.{band}
@@ -12,8 +12,8 @@ loop-band-preserved c =
     let i = c.loop-band.band-index in
     let here = c.loop-band-test.true in
     elim c.if-band-strike.branch [
-      | then-band-strike w ↦ w.step_is ∙ sym (step_taken bands i c.args.strike (band 0 0) here w.if-band-strike.true)
-      | else-band-strike w ↦ w.step_is ∙ c.loop-band.invariant ∙ sym (step_left bands i c.args.strike (band 0 0) here w.if-band-strike.false)
+      | then-band-strike w ↦ w.step-is ∙ sym (step_taken bands i c.args.strike (band 0 0) here w.if-band-strike.true)
+      | else-band-strike w ↦ w.step-is ∙ c.loop-band.invariant ∙ sym (step_left bands i c.args.strike (band 0 0) here w.if-band-strike.false)
     ]
 
 pub returns : goal.returns

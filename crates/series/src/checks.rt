@@ -59,7 +59,8 @@ impl Series {
         ensures { result ≡ (self.strike % step_in (bands_of family) self.strike == 0) }
     {
         let steps = family.steps();
-        self.strike % steps.step_at(self.strike) == 0
+        let strike = self.strike;
+        strike % steps.step_at(strike) == 0
     }
 
     /// The series of these numbers in a family: refused by 4 where one is out of range or the family lacks the kind,

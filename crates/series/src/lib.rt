@@ -1,5 +1,6 @@
 //! Which series a family has, and the deltas that they take.
 #![tactic(auto)]
+
 mod checks;
 mod delta;
 mod series;

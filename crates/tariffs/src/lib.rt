@@ -1,5 +1,6 @@
 //! Tariffs: what a side of a trade or an exercise costs.
 #![tactic(auto)]
+
 mod allowance;
 mod either;
 mod entries;

@@ -6,7 +6,7 @@ pub returns-in-Trade : goal.returns-in-Trade
 returns-in-Trade g c =
     let t = c.args.self.now in
     let s = c.args.side.now in
-    let n = c.charge-trade.ensures in
+    let n = c.charge_trade.ensures in
     record {
       standing =
           (λ i. record { reduced = n.reduced i; entries = n.entries i; lower = n.lower i })

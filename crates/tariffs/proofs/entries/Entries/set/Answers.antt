@@ -24,7 +24,7 @@ returns c =
     let t = c.args.self.now in
     let a = c.args.account in
     let n = c.args.left in
-    let p : None ≡ entry_of t a = c.in-default.ensures.value in
+    let p : None ≡ entry_of t a = c.in_default.ensures.value in
     let here : t.used < length t.places = search rules in
     record {
       range = search rules;

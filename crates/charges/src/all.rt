@@ -8,9 +8,9 @@ use terms::{Reason, Refusal};
 
 /// Writes the fee of each side into `fees`, in order, up to the first side without a rate.
 pub fn quote_all<T: Tariff>(tariff: &T, sides: &[Side], fees: &mut [u64]) -> Result<(), Refusal>
-    ensures answer { result ≡ answer (price tariff.now) sides.now fees.old }
-    ensures written { fees.new ≡ written (price tariff.now) sides.now fees.old }
-    ensures bound { OnOk result (sum (fees_of (price tariff.now) sides.now) ≤ sum_by (λ s. s.count) sides.now * 100000) }
+    ensures answer { result ≡ answer (T.Tariff.price tariff.now) sides.now fees.old }
+    ensures written { fees.new ≡ written (T.Tariff.price tariff.now) sides.now fees.old }
+    ensures bound { OnOk result (sum (fees_of (T.Tariff.price tariff.now) sides.now) ≤ sum_by (λ s. s.count) sides.now * 100000) }
 {
     if fees.len() < sides.len() {
         return Err(Refusal::plain(Reason::NoSpace));
@@ -21,9 +21,9 @@ pub fn quote_all<T: Tariff>(tariff: &T, sides: &[Side], fees: &mut [u64]) -> Res
 // Writes the fees where there is space for them.
 fn write_fees<T: Tariff>(tariff: &T, sides: &[Side], fees: &mut [u64]) -> Result<(), Refusal>
     requires { length sides.now ≤ length fees.old }
-    ensures answer { result ≡ rated_all (price tariff.now) sides.now }
-    ensures written { fees.new ≡ in_front (fees_of (price tariff.now) sides.now) fees.old }
-    ensures bound { sum (fees_of (price tariff.now) sides.now) ≤ sum_by (λ s. s.count) sides.now * 100000 }
+    ensures answer { result ≡ rated_all (T.Tariff.price tariff.now) sides.now }
+    ensures written { fees.new ≡ in_front (fees_of (T.Tariff.price tariff.now) sides.now) fees.old }
+    ensures bound { sum (fees_of (T.Tariff.price tariff.now) sides.now) ≤ sum_by (λ s. s.count) sides.now * 100000 }
 {
     for (i, side) in sides.iter().enumerate() {
         let fee = fee_of(tariff, side)?;
@@ -34,8 +34,8 @@ fn write_fees<T: Tariff>(tariff: &T, sides: &[Side], fees: &mut [u64]) -> Result
 
 /// Charges the sides in order. A tariff that no charge moves stays as it was.
 pub fn charge_each<T: Tariff>(tariff: &mut T, sides: &[Side])
-    ensures standing { tariff.new ≡ fold after tariff.old sides.now }
-    ensures unmoved { ((s : Side) → after tariff.old s ≡ tariff.old) → tariff.new ≡ tariff.old }
+    ensures standing { tariff.new ≡ fold T.Tariff.after tariff.old sides.now }
+    ensures unmoved { ((s : Side) → T.Tariff.after tariff.old s ≡ tariff.old) → tariff.new ≡ tariff.old }
 {
     for side in sides {
         tariff.charge(side);
@@ -48,10 +48,10 @@ pub fn charge_all<T: Tariff>(
     sides: &[Side],
     fees: &mut [u64],
 ) -> Result<(), Refusal>
-    ensures answer { result ≡ answer (price tariff.old) sides.now fees.old }
-    ensures written { fees.new ≡ written (price tariff.old) sides.now fees.old }
-    ensures bound { OnOk result (sum (fees_of (price tariff.old) sides.now) ≤ sum_by (λ s. s.count) sides.now * 100000) }
-    ensures standing { tariff.new ≡ on_ok result (fold after tariff.old sides.now) tariff.old }
+    ensures answer { result ≡ answer (T.Tariff.price tariff.old) sides.now fees.old }
+    ensures written { fees.new ≡ written (T.Tariff.price tariff.old) sides.now fees.old }
+    ensures bound { OnOk result (sum (fees_of (T.Tariff.price tariff.old) sides.now) ≤ sum_by (λ s. s.count) sides.now * 100000) }
+    ensures standing { tariff.new ≡ on_ok result (fold T.Tariff.after tariff.old sides.now) tariff.old }
 {
     quote_all(tariff, sides, fees)?;
     charge_each(tariff, sides);

@@ -8,7 +8,7 @@ use terms::Refusal;
 
 /// The fees of the buyer and of the seller of a trade.
 pub fn quote_both<T: Tariff>(tariff: &T, buyer: &Side, seller: &Side) -> Result<(u64, u64), Refusal>
-    ensures answer { result ≡ rated_both (price tariff.now) buyer.now seller.now }
+    ensures answer { result ≡ rated_both (T.Tariff.price tariff.now) buyer.now seller.now }
     ensures bound { IfOk result (λ fees. fees.0 + fees.1 ≤ (buyer.now.count + seller.now.count) * 100000) }
 {
     let bought = fee_of(tariff, buyer)?;
@@ -22,9 +22,9 @@ pub fn charge_both<T: Tariff>(
     buyer: &Side,
     seller: &Side,
 ) -> Result<(u64, u64), Refusal>
-    ensures answer { result ≡ rated_both (price tariff.old) buyer.now seller.now }
+    ensures answer { result ≡ rated_both (T.Tariff.price tariff.old) buyer.now seller.now }
     ensures bound { IfOk result (λ fees. fees.0 + fees.1 ≤ (buyer.now.count + seller.now.count) * 100000) }
-    ensures standing { tariff.new ≡ on_ok result (after (after tariff.old buyer.now) seller.now) tariff.old }
+    ensures standing { tariff.new ≡ on_ok result (T.Tariff.after (T.Tariff.after tariff.old buyer.now) seller.now) tariff.old }
 {
     let fees = quote_both(tariff, buyer, seller)?;
     tariff.charge(buyer);

@@ -1,5 +1,6 @@
 //! What several sides cost, by any tariff: all are quoted in the standing before, then charged in order.
 #![tactic(auto)]
+
 mod all;
 mod both;
 mod figure;

@@ -7,7 +7,7 @@ use terms::{Reason, Refusal};
 
 /// The fee of a side, in cents.
 pub fn fee_of<T: Tariff>(tariff: &T, side: &Side) -> Result<u64, Refusal>
-    ensures answer { result ≡ rated (price tariff.now side.now) side.now.account }
+    ensures answer { result ≡ rated (T.Tariff.price tariff.now side.now) side.now.account }
     ensures bound { IfOk result (λ fee. fee ≤ side.now.count * 100000) }
 {
     match tariff.quote(side) {

@@ -1,5 +1,5 @@
 -- Counts on the way, as wide as the code needs them.
-use Rattle.std.specs.Prelude.{ℕ, ◌^◌, ◌≤◌, unsigned_abs}
+use Rattle.std.specs.Prelude.{◌^◌, ◌≤◌, unsigned_abs}
 use Rattle.positions.specs.declared.position.Counts.{Counts}
 use Rattle.positions.specs.declared.position.Position.{Position}
 use Rattle.positions.specs.Positions.{position}

@@ -1,5 +1,5 @@
 -- Positions: full contracts of five units and minis of one, below zero where they are sold.
-use Rattle.std.specs.Prelude.{ℕ, suc, ◌*◌, ◌/◌, min, Bool, true, false, cond, ◌&&◌, ℤ, pos, negsuc, ◌+ℤ◌, ◌-ℤ◌, ◌*ℤ◌, neg_ℤ, Some, None, Option, ◌==◌, nat_le, unsigned_abs}
+use Rattle.std.specs.Prelude.{ℕ, suc, ◌/◌, min, Bool, cond, ◌&&◌, ℤ, pos, negsuc, ◌+ℤ◌, ◌-ℤ◌, ◌*ℤ◌, neg_ℤ, Some, None, Option, ◌==◌, nat_le, unsigned_abs}
 use Rattle.terms.specs.declared.kinds.AccountKind.{AccountKind}
 use Rattle.terms.specs.declared.kinds.AccountKind.TheVariants.{House, Maker, Client}
 use Rattle.terms.specs.declared.kinds.Size.{Size}

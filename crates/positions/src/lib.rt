@@ -1,5 +1,6 @@
 //! An account's contracts in one series, the cash that they bring, and the keys under which they stand.
 #![tactic(auto)]
+
 mod keys;
 mod money;
 mod position;

@@ -5,8 +5,8 @@ use Rattle.charges.specs.Fees.{fees_of, rated_all}
 use Rattle.charges.proofs.Steps.{blank, priced, fees_of_le, fees_more, rated_more, fees_stop, rated_stops, space_more, fees_there}
 use Rattle.charges.proofs.all.write_fees.Goals as goal
 
-pub returns-in-err-fee : goal.returns-in-err-fee
-returns-in-err-fee g c =
+pub returns-in_err-fee : goal.returns-in_err-fee
+returns-in_err-fee g c =
     let t = c.args.tariff.now in
     let ss = c.args.sides.now in
     let old = c.args.fees.now in
@@ -14,8 +14,8 @@ returns-in-err-fee g c =
     let i = c.loop-i.i in
     let fees = c.loop-i.fees in
     let h : i < length ss = search rules in
-    let e = c.in-err-fee.ensures.answer in
-    let p = err_from_is_err_and c.from-residual.result c.from-residual.ensures.1 in
+    let e = c.in_err-fee.ensures.answer in
+    let p = err_from_is_err_and c.from_residual.result c.from_residual.ensures.1 in
     let inv = c.loop-i.invariant in
     record {
       answer =
@@ -32,11 +32,11 @@ loop-i-preserved g c =
     let price = g.T.Tariff.price c.args.tariff.now in
     let i = c.loop-i.i in
     let fees = c.loop-i.fees in
-    let fee = c.in-ok-fee.fee in
+    let fee = c.in_ok-fee.fee in
     let h : i < length ss = search rules in
     let f : i < length fees = search rules in
     let s = get_or ss i blank in
-    let e = c.in-ok-fee.ensures.answer in
+    let e = c.in_ok-fee.ensures.answer in
     let inv = c.loop-i.invariant in (
       fees_more price ss i h fees fee f (priced (price s) s.account fee e) inv.0,
       rated_more price ss i h fee e inv.1,

@@ -17,18 +17,18 @@ returns-then-account-eq-NO-ACCOUNT c =
     let a : account_in c.args.account ≡ false = grind (arith, nat_tests) in
     fails _ _ _ a ∙ search rules
 
-pub returns-in-err-kind : goal.returns-in-err-kind
-returns-in-err-kind c =
+pub returns-in_err-kind : goal.returns-in_err-kind
+returns-in_err-kind c =
     let p = err_from_is_err_and c.from-residual.result c.from-residual.ensures.1 in
     let a : account_in c.args.account ≡ true = grind (arith, nat_tests) in
-    let h = c.in-err-kind.ensures in
+    let h = c.in_err-kind.ensures in
     let k : ltb c.args.kind 3 ≡ false = grind (arith, nat_tests) in
     rw (p.1, p.2) (passes _ _ _ a ∙ fails _ _ _ k ∙ search rules)
 
 pub returns-then-is-some : goal.returns-then-is-some
 returns-then-is-some c =
     let a : account_in c.args.account ≡ true = grind (arith, nat_tests) in
-    let h = c.in-ok-kind.ensures in
+    let h = c.in_ok-kind.ensures in
     let k : ltb c.args.kind 3 ≡ true = grind (arith, nat_tests) in
     let s : present (rows_of c.args.tables.now.accounts) c.args.account ≡ true = search rules in
     passes _ _ _ a ∙ passes _ _ _ k ∙ fails _ _ _ (ap not s) ∙ search rules
@@ -36,7 +36,7 @@ returns-then-is-some c =
 pub returns-then-not-has-place : goal.returns-then-not-has-place
 returns-then-not-has-place c =
     let a : account_in c.args.account ≡ true = grind (arith, nat_tests) in
-    let h = c.in-ok-kind.ensures in
+    let h = c.in_ok-kind.ensures in
     let k : ltb c.args.kind 3 ≡ true = grind (arith, nat_tests) in
     let s : present (rows_of c.args.tables.now.accounts) c.args.account ≡ false = search rules in
     let f = admitted_fits c.args.tables.now c.args.account c.args.kind _ s in
@@ -45,10 +45,10 @@ returns-then-not-has-place c =
 pub returns : goal.returns
 returns c =
     let a : account_in c.args.account ≡ true = grind (arith, nat_tests) in
-    let h = c.in-ok-kind.ensures in
+    let h = c.in_ok-kind.ensures in
     let k : ltb c.args.kind 3 ≡ true = grind (arith, nat_tests) in
     let s : present (rows_of c.args.tables.now.accounts) c.args.account ≡ false = search rules in
     let f = admitted_fits c.args.tables.now c.args.account c.args.kind _ s in (
       passes _ _ _ a ∙ passes _ _ _ k ∙ passes _ _ _ (ap not s) ∙ passes _ _ _ (f ∙ sym c.has-place.ensures ∙ c.if-not-has-place.false),
-      account_kind c.in-ok-kind.kind c.args.kind h.1,
+      account_kind c.in_ok-kind.kind c.args.kind h.1,
     )

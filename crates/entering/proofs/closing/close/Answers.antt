@@ -22,18 +22,18 @@ use Rattle.entering.specs.Closed.{ClosedAt}
 use Rattle.entering.proofs.closing.close.Goals as goal
 
 pub closed-requires : goal.closed-requires
-closed-requires c = c.in-ok-family.ensures.1
+closed-requires c = c.in_ok-family.ensures.1
 
-pub returns-in-err-family : goal.returns-in-err-family
-returns-in-err-family c =
+pub returns-in_err-family : goal.returns-in_err-family
+returns-in_err-family c =
     let p = err_from_is_err_and c.from-residual.result c.from-residual.ensures.1 in
-    rw (p.1, p.2) (refused _ c.args.tables.now _ _ refl (never_opened c.args.tables.now _ _ c.in-err-family.ensures))
+    rw (p.1, p.2) (refused _ c.args.tables.now _ _ refl (never_opened c.args.tables.now _ _ c.in_err-family.ensures))
 
-pub returns-in-err-left : goal.returns-in-err-left
+pub returns-in_err-left : goal.returns-in_err-left
 unfolding judging.judge_call
-returns-in-err-left c =
-    let p = err_from_is_err_and c.from-residual-in-err-left.result c.from-residual-in-err-left.ensures.1 in
-    rw (p.1, p.2) (refused _ c.args.tables.now _ _ refl (judge_is c.args.tables.now _ c.in-ok-family.ensures.0 ∙ c.in-err-left.ensures))
+returns-in_err-left c =
+    let p = err_from_is_err_and c.from-residual-in_err-left.result c.from-residual-in_err-left.ensures.1 in
+    rw (p.1, p.2) (refused _ c.args.tables.now _ _ refl (judge_is c.args.tables.now _ c.in_ok-family.ensures.0 ∙ c.in_err-left.ensures))
 
 -- what is closed is there
 there : (t : Tables) (s a k : ℕ) → closable k (position_at (model_of t) s a) ≡ true → 1 ≤ k → present (rows_of t.positions) (line_key s a) ≡ true
@@ -49,8 +49,8 @@ place-requires c =
     let t = c.args.tables.now in
     let x = numbers c.args.kind c.args.month c.args.strike in
     let k = c.args.count in
-    let π : ClosePassed (model_of t) x c.args.account k = passed (model_of t) (close x c.args.account k) unpriced 0 (model_of t) c.in-ok-left.ensures.0 in
-    let f : ClosedAt t (key_of x) c.args.account k c.in-ok-left.left = c.in-ok-left.ensures.1 in
+    let π : ClosePassed (model_of t) x c.args.account k = passed (model_of t) (close x c.args.account k) unpriced 0 (model_of t) c.in_ok-left.ensures.0 in
+    let f : ClosedAt t (key_of x) c.args.account k c.in_ok-left.left = c.in_ok-left.ensures.1 in
     rw f.has_key (ap (λ (b : Bool). b || ltb (length (rows_of t.positions)) (room_of t.positions)) (there t (key_of x) c.args.account k π.enough π.some))
 
 pub returns : goal.returns
@@ -58,10 +58,10 @@ unfolding judging.judge_call post revise
 returns c =
     let t = c.args.tables.now in
     let x = numbers c.args.kind c.args.month c.args.strike in
-    let f : ClosedAt t (key_of x) c.args.account c.args.count c.in-ok-left.left = c.in-ok-left.ensures.1 in
+    let f : ClosedAt t (key_of x) c.args.account c.args.count c.in_ok-left.left = c.in_ok-left.ensures.1 in
     let rows : rows_of c.place.new.positions ≡ placed (line_key (key_of x) c.args.account) (closed c.args.count (position_at (model_of t) (key_of x) c.args.account)) (rows_of t.positions)
     = c.place.ensures.rows ∙ rw (f.has_key, f.has_position) refl in
-    accepted _ t _ (judge_is t _ c.in-ok-family.ensures.0 ∙ c.in-ok-left.ensures.0)
+    accepted _ t _ (judge_is t _ c.in_ok-family.ensures.0 ∙ c.in_ok-left.ensures.0)
     (λ i. record {
       family = t.family;
       spaces = record { accounts = room_of t.accounts; series = room_of t.series; positions = c.place.ensures.room i };

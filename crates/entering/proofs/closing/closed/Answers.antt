@@ -15,17 +15,17 @@ use Rattle.tables.proofs.Following.{passes, fails}
 use Rattle.entering.proofs.Others.{none_closed, some_closed}
 use Rattle.entering.proofs.closing.closed.Goals as goal
 
-pub returns-in-err-series : goal.returns-in-err-series
-returns-in-err-series c =
+pub returns-in_err-series : goal.returns-in_err-series
+returns-in_err-series c =
     let p = err_from_is_err_and c.from-residual.result c.from-residual.ensures.1 in
-    let h = c.in-err-series.ensures in
+    let h = c.in_err-series.ensures in
     rw (p.1, p.2, h.1) (fails _ _ _ (range_not c.args.tables.now.family c.args.family c.requires c.args.kind c.args.month c.args.strike h.0))
 
 pub returns-then-account-eq-NO-ACCOUNT : goal.returns-then-account-eq-NO-ACCOUNT
 returns-then-account-eq-NO-ACCOUNT c =
     let t = c.args.tables.now in
-    let h = c.in-ok-series.ensures in
-    let s = c.in-ok-series.series in
+    let h = c.in_ok-series.ensures in
+    let s = c.in_ok-series.series in
     let x = numbers c.args.kind c.args.month c.args.strike in
     let r : series_in (family_of t.family) x ≡ true = range_is t.family c.args.family c.requires c.args.kind c.args.month c.args.strike s h in
     let a : account_in c.args.account ≡ false = grind (arith, nat_tests) in
@@ -34,8 +34,8 @@ returns-then-account-eq-NO-ACCOUNT c =
 pub returns-then-not-counts : goal.returns-then-not-counts
 returns-then-not-counts c =
     let t = c.args.tables.now in
-    let h = c.in-ok-series.ensures in
-    let s = c.in-ok-series.series in
+    let h = c.in_ok-series.ensures in
+    let s = c.in_ok-series.series in
     let x = numbers c.args.kind c.args.month c.args.strike in
     let r : series_in (family_of t.family) x ≡ true = range_is t.family c.args.family c.requires c.args.kind c.args.month c.args.strike s h in
     let a : account_in c.args.account ≡ true = grind (arith, nat_tests) in
@@ -44,8 +44,8 @@ returns-then-not-counts c =
 pub returns-then-not-on-step : goal.returns-then-not-on-step
 returns-then-not-on-step c =
     let t = c.args.tables.now in
-    let h = c.in-ok-series.ensures in
-    let s = c.in-ok-series.series in
+    let h = c.in_ok-series.ensures in
+    let s = c.in_ok-series.series in
     let x = numbers c.args.kind c.args.month c.args.strike in
     let r : series_in (family_of t.family) x ≡ true = range_is t.family c.args.family c.requires c.args.kind c.args.month c.args.strike s h in
     let a : account_in c.args.account ≡ true = grind (arith, nat_tests) in
@@ -56,8 +56,8 @@ returns-then-not-on-step c =
 pub returns-then-is-none : goal.returns-then-is-none
 returns-then-is-none c =
     let t = c.args.tables.now in
-    let h = c.in-ok-series.ensures in
-    let s = c.in-ok-series.series in
+    let h = c.in_ok-series.ensures in
+    let s = c.in_ok-series.series in
     let x = numbers c.args.kind c.args.month c.args.strike in
     let r : series_in (family_of t.family) x ≡ true = range_is t.family c.args.family c.requires c.args.kind c.args.month c.args.strike s h in
     let a : account_in c.args.account ≡ true = grind (arith, nat_tests) in
@@ -70,8 +70,8 @@ returns-then-is-none c =
 pub returns-then-is-none-2 : goal.returns-then-is-none-2
 returns-then-is-none-2 c =
     let t = c.args.tables.now in
-    let h = c.in-ok-series.ensures in
-    let s = c.in-ok-series.series in
+    let h = c.in_ok-series.ensures in
+    let s = c.in_ok-series.series in
     let x = numbers c.args.kind c.args.month c.args.strike in
     let r : series_in (family_of t.family) x ≡ true = range_is t.family c.args.family c.requires c.args.kind c.args.month c.args.strike s h in
     let a : account_in c.args.account ≡ true = grind (arith, nat_tests) in
@@ -87,8 +87,8 @@ returns-then-is-none-2 c =
 pub returns-in-default : goal.returns-in-default
 returns-in-default c =
     let t = c.args.tables.now in
-    let h = c.in-ok-series.ensures in
-    let s = c.in-ok-series.series in
+    let h = c.in_ok-series.ensures in
+    let s = c.in_ok-series.series in
     let x = numbers c.args.kind c.args.month c.args.strike in
     let r : series_in (family_of t.family) x ≡ true = range_is t.family c.args.family c.requires c.args.kind c.args.month c.args.strike s h in
     let a : account_in c.args.account ≡ true = grind (arith, nat_tests) in
@@ -107,8 +107,8 @@ returns-in-default c =
 pub returns : goal.returns
 returns c =
     let t = c.args.tables.now in
-    let h = c.in-ok-series.ensures in
-    let s = c.in-ok-series.series in
+    let h = c.in_ok-series.ensures in
+    let s = c.in_ok-series.series in
     let x = numbers c.args.kind c.args.month c.args.strike in
     let r : series_in (family_of t.family) x ≡ true = range_is t.family c.args.family c.requires c.args.kind c.args.month c.args.strike s h in
     let a : account_in c.args.account ≡ true = grind (arith, nat_tests) in

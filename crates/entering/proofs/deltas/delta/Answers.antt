@@ -16,19 +16,19 @@ use Rattle.entering.specs.Found.{FoundAt}
 use Rattle.entering.proofs.deltas.delta.Goals as goal
 
 pub weighed-requires : goal.weighed-requires
-weighed-requires c = c.in-ok-family.ensures.1
+weighed-requires c = c.in_ok-family.ensures.1
 
-pub returns-in-err-family : goal.returns-in-err-family
-returns-in-err-family c =
+pub returns-in_err-family : goal.returns-in_err-family
+returns-in_err-family c =
     let p = err_from_is_err_and c.from-residual.result c.from-residual.ensures.1 in
-    rw (p.1, p.2) (refused _ c.args.tables.now _ _ refl (never_opened c.args.tables.now _ _ c.in-err-family.ensures))
+    rw (p.1, p.2) (refused _ c.args.tables.now _ _ refl (never_opened c.args.tables.now _ _ c.in_err-family.ensures))
 
-pub returns-in-err-found : goal.returns-in-err-found
+pub returns-in_err-found : goal.returns-in_err-found
 unfolding judging.judge_call
-returns-in-err-found c =
-    let p = err_from_is_err_and c.from-residual-in-err-found.result c.from-residual-in-err-found.ensures.1 in
-    let e : judging.judge_delta (model_of c.args.tables.now) (numbers c.args.kind c.args.month c.args.strike) c.args.value ≡ Err c.in-err-found.field-0.0 = search rules in
-    rw (p.1, p.2) (refused _ c.args.tables.now _ _ refl (judge_is c.args.tables.now _ c.in-ok-family.ensures.0 ∙ e))
+returns-in_err-found c =
+    let p = err_from_is_err_and c.from-residual-in_err-found.result c.from-residual-in_err-found.ensures.1 in
+    let e : judging.judge_delta (model_of c.args.tables.now) (numbers c.args.kind c.args.month c.args.strike) c.args.value ≡ Err c.in_err-found.field-0.0 = search rules in
+    rw (p.1, p.2) (refused _ c.args.tables.now _ _ refl (judge_is c.args.tables.now _ c.in_ok-family.ensures.0 ∙ e))
 
 judged : (c : goal.After-put) → judging.judge_delta (model_of c.args.tables.now) (numbers c.args.kind c.args.month c.args.strike) c.args.value ≡ Ok tt
 judged c = search rules
@@ -39,12 +39,12 @@ returns c =
     let t = c.args.tables.now in
     let x = numbers c.args.kind c.args.month c.args.strike in
     let v = c.args.value in
-    let f : FoundAt t (key_of x) c.in-ok-found.found = c.in-ok-found.ensures.1 in
-    let place : place_for c.in-ok-found.found.key (rows_of t.series) (room_of t.series) ≡ true
+    let f : FoundAt t (key_of x) c.in_ok-found.found = c.in_ok-found.ensures.1 in
+    let place : place_for c.in_ok-found.found.key (rows_of t.series) (room_of t.series) ≡ true
     = rw f.has_key (ap (λ (b : Bool). b || ltb (length (rows_of t.series)) (room_of t.series)) f.there) in
     let rows : rows_of c.put.new.self ≡ put (key_of x) (record { value = v; state = state_at (model_of t) (key_of x) }) (rows_of t.series)
     = c.put.ensures.rows ∙ rw (place, f.has_key, f.has_state, to_z-of_z w32 v c.ranges.value) refl in
-    accepted _ t _ (judge_is t _ c.in-ok-family.ensures.0 ∙ judged c)
+    accepted _ t _ (judge_is t _ c.in_ok-family.ensures.0 ∙ judged c)
     (λ i. record {
       family = t.family;
       spaces = record { accounts = room_of t.accounts; series = c.put.ensures.room i; positions = room_of t.positions };

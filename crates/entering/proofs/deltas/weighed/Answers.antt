@@ -16,17 +16,17 @@ use Rattle.tables.proofs.Following.{passes, fails}
 use Rattle.entering.proofs.Others.{not_future, not_done}
 use Rattle.entering.proofs.deltas.weighed.Goals as goal
 
-pub returns-in-err-series : goal.returns-in-err-series
-returns-in-err-series c =
+pub returns-in_err-series : goal.returns-in_err-series
+returns-in_err-series c =
     let p = err_from_is_err_and c.from-residual.result c.from-residual.ensures.1 in
-    let h = c.in-err-series.ensures in
+    let h = c.in_err-series.ensures in
     rw (p.1, p.2, h.1) (fails _ _ _ (range_not c.args.tables.now.family c.args.family c.requires c.args.kind c.args.month c.args.strike h.0))
 
 pub returns-in-Future : goal.returns-in-Future
 returns-in-Future c =
     let t = c.args.tables.now in
-    let h = c.in-ok-series.ensures in
-    let s = c.in-ok-series.series in
+    let h = c.in_ok-series.ensures in
+    let s = c.in_ok-series.series in
     let x = numbers c.args.kind c.args.month c.args.strike in
     let r : series_in (family_of t.family) x ≡ true = range_is t.family c.args.family c.requires c.args.kind c.args.month c.args.strike s h in
     let k : series_kind x ≡ c.kind.result = has_kind c.args.family c.args.kind c.args.month c.args.strike s h ∙ sym c.kind.ensures in
@@ -35,8 +35,8 @@ returns-in-Future c =
 pub returns-then-not-takes-delta : goal.returns-then-not-takes-delta
 returns-then-not-takes-delta c =
     let t = c.args.tables.now in
-    let h = c.in-ok-series.ensures in
-    let s = c.in-ok-series.series in
+    let h = c.in_ok-series.ensures in
+    let s = c.in_ok-series.series in
     let x = numbers c.args.kind c.args.month c.args.strike in
     let r : series_in (family_of t.family) x ≡ true = range_is t.family c.args.family c.requires c.args.kind c.args.month c.args.strike s h in
     let k : series_kind x ≡ c.kind.result = has_kind c.args.family c.args.kind c.args.month c.args.strike s h ∙ sym c.kind.ensures in
@@ -49,8 +49,8 @@ returns-then-not-takes-delta c =
 pub returns-then-not-on-step : goal.returns-then-not-on-step
 returns-then-not-on-step c =
     let t = c.args.tables.now in
-    let h = c.in-ok-series.ensures in
-    let s = c.in-ok-series.series in
+    let h = c.in_ok-series.ensures in
+    let s = c.in_ok-series.series in
     let x = numbers c.args.kind c.args.month c.args.strike in
     let r : series_in (family_of t.family) x ≡ true = range_is t.family c.args.family c.requires c.args.kind c.args.month c.args.strike s h in
     let k : series_kind x ≡ c.kind.result = has_kind c.args.family c.args.kind c.args.month c.args.strike s h ∙ sym c.kind.ensures in
@@ -64,8 +64,8 @@ returns-then-not-on-step c =
 pub returns-in-default-read : goal.returns-in-default-read
 returns-in-default-read c =
     let t = c.args.tables.now in
-    let h = c.in-ok-series.ensures in
-    let s = c.in-ok-series.series in
+    let h = c.in_ok-series.ensures in
+    let s = c.in_ok-series.series in
     let x = numbers c.args.kind c.args.month c.args.strike in
     let r : series_in (family_of t.family) x ≡ true = range_is t.family c.args.family c.requires c.args.kind c.args.month c.args.strike s h in
     let k : series_kind x ≡ c.kind.result = has_kind c.args.family c.args.kind c.args.month c.args.strike s h ∙ sym c.kind.ensures in
@@ -82,8 +82,8 @@ returns-in-default-read c =
 pub returns-in-Done : goal.returns-in-Done
 returns-in-Done c =
     let t = c.args.tables.now in
-    let h = c.in-ok-series.ensures in
-    let s = c.in-ok-series.series in
+    let h = c.in_ok-series.ensures in
+    let s = c.in_ok-series.series in
     let x = numbers c.args.kind c.args.month c.args.strike in
     let r : series_in (family_of t.family) x ≡ true = range_is t.family c.args.family c.requires c.args.kind c.args.month c.args.strike s h in
     let k : series_kind x ≡ c.kind.result = has_kind c.args.family c.args.kind c.args.month c.args.strike s h ∙ sym c.kind.ensures in
@@ -102,8 +102,8 @@ returns-in-Done c =
 pub returns-in-default-state : goal.returns-in-default-state
 returns-in-default-state c =
     let t = c.args.tables.now in
-    let h = c.in-ok-series.ensures in
-    let s = c.in-ok-series.series in
+    let h = c.in_ok-series.ensures in
+    let s = c.in_ok-series.series in
     let x = numbers c.args.kind c.args.month c.args.strike in
     let r : series_in (family_of t.family) x ≡ true = range_is t.family c.args.family c.requires c.args.kind c.args.month c.args.strike s h in
     let k : series_kind x ≡ c.kind.result = has_kind c.args.family c.args.kind c.args.month c.args.strike s h ∙ sym c.kind.ensures in

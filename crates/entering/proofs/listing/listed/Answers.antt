@@ -13,17 +13,17 @@ use Rattle.entering.proofs.Chains.{both_pass, one_fails, month_same, ok_unit}
 use Rattle.entering.proofs.Rooms.{listed_fits}
 use Rattle.entering.proofs.listing.listed.Goals as goal
 
-pub returns-in-err-series : goal.returns-in-err-series
-returns-in-err-series c =
+pub returns-in_err-series : goal.returns-in_err-series
+returns-in_err-series c =
     let p = err_from_is_err_and c.from-residual.result c.from-residual.ensures.1 in
-    let h = c.in-err-series.ensures in
+    let h = c.in_err-series.ensures in
     rw (p.1, p.2, h.1) (fails _ _ _ (range_not c.args.tables.now.family c.args.family c.requires c.args.kind c.args.month c.args.strike h.0))
 
 pub returns-then-not-takes-first : goal.returns-then-not-takes-first
 returns-then-not-takes-first c =
     let t = c.args.tables.now in
-    let h = c.in-ok-series.ensures in
-    let s = c.in-ok-series.series in
+    let h = c.in_ok-series.ensures in
+    let s = c.in_ok-series.series in
     let x = numbers c.args.kind c.args.month c.args.strike in
     let r : series_in (family_of t.family) x ≡ true = range_is t.family c.args.family c.requires c.args.kind c.args.month c.args.strike s h in
     let k : series_kind x ≡ s.kind = has_kind c.args.family c.args.kind c.args.month c.args.strike s h in
@@ -34,8 +34,8 @@ returns-then-not-takes-first c =
 pub returns-then-not-on-step : goal.returns-then-not-on-step
 returns-then-not-on-step c =
     let t = c.args.tables.now in
-    let h = c.in-ok-series.ensures in
-    let s = c.in-ok-series.series in
+    let h = c.in_ok-series.ensures in
+    let s = c.in_ok-series.series in
     let x = numbers c.args.kind c.args.month c.args.strike in
     let r : series_in (family_of t.family) x ≡ true = range_is t.family c.args.family c.requires c.args.kind c.args.month c.args.strike s h in
     let k : series_kind x ≡ s.kind = has_kind c.args.family c.args.kind c.args.month c.args.strike s h in
@@ -47,8 +47,8 @@ returns-then-not-on-step c =
 pub returns-then-is-some : goal.returns-then-is-some
 returns-then-is-some c =
     let t = c.args.tables.now in
-    let h = c.in-ok-series.ensures in
-    let s = c.in-ok-series.series in
+    let h = c.in_ok-series.ensures in
+    let s = c.in_ok-series.series in
     let x = numbers c.args.kind c.args.month c.args.strike in
     let r : series_in (family_of t.family) x ≡ true = range_is t.family c.args.family c.requires c.args.kind c.args.month c.args.strike s h in
     let k : series_kind x ≡ s.kind = has_kind c.args.family c.args.kind c.args.month c.args.strike s h in
@@ -59,11 +59,11 @@ returns-then-is-some c =
     let q : present (rows_of t.series) (key_of x) ≡ c.is-some.result = sym (c.is-some.ensures ∙ ap is_some (c.read.ensures ∙ ap (lookup (rows_of t.series)) e)) in
     passes _ _ _ r ∙ passes _ _ _ (f ∙ c.if-not-takes-first.false) ∙ passes _ _ _ (o ∙ c.if-not-on-step.false) ∙ fails _ _ _ (ap not (q ∙ c.if-is-some.true)) ∙ search rules
 
-pub returns-in-err-month-takes : goal.returns-in-err-month-takes
-returns-in-err-month-takes c =
+pub returns-in_err-month-takes : goal.returns-in_err-month-takes
+returns-in_err-month-takes c =
     let t = c.args.tables.now in
-    let h = c.in-ok-series.ensures in
-    let s = c.in-ok-series.series in
+    let h = c.in_ok-series.ensures in
+    let s = c.in_ok-series.series in
     let x = numbers c.args.kind c.args.month c.args.strike in
     let r : series_in (family_of t.family) x ≡ true = range_is t.family c.args.family c.requires c.args.kind c.args.month c.args.strike s h in
     let k : series_kind x ≡ s.kind = has_kind c.args.family c.args.kind c.args.month c.args.strike s h in
@@ -72,8 +72,8 @@ returns-in-err-month-takes c =
     let o : is_on_step (family_of t.family) x ≡ c.on_step.result = step_is t.family c.args.family c.requires c.args.kind c.args.month c.args.strike s h ∙ sym c.on_step.ensures in
     let e : c.series-key.result ≡ key_of x = c.series-key.ensures.value ∙ has_key c.args.family c.args.kind c.args.month c.args.strike s h in
     let q : present (rows_of t.series) (key_of x) ≡ c.is-some.result = sym (c.is-some.ensures ∙ ap is_some (c.read.ensures ∙ ap (lookup (rows_of t.series)) e)) in
-    let p = err_from_is_err_and c.from-residual-in-err-month-takes.result c.from-residual-in-err-month-takes.ensures.1 in
-    let m = month_same (rows_of t.series) (c.kind-2.ensures ∙ sym k) (ap (λ (y : Month). y.number) c.month.ensures ∙ h.has_month) (sym c.in-err-month-takes.was ∙ c.month-takes.ensures) in
+    let p = err_from_is_err_and c.from-residual-in_err-month-takes.result c.from-residual-in_err-month-takes.ensures.1 in
+    let m = month_same (rows_of t.series) (c.kind-2.ensures ∙ sym k) (ap (λ (y : Month). y.number) c.month.ensures ∙ h.has_month) (sym c.in_err-month-takes.was ∙ c.month-takes.ensures) in
     rw (p.1, p.2)
     (passes _ _ _ r ∙ passes _ _ _ (f ∙ c.if-not-takes-first.false) ∙ passes _ _ _ (o ∙ c.if-not-on-step.false)
     ∙ passes _ _ _ (ap not (q ∙ c.if-is-some.false)) ∙ one_fails _ _ _ _ _ _ m)
@@ -81,8 +81,8 @@ returns-in-err-month-takes c =
 pub returns-then-not-has-place : goal.returns-then-not-has-place
 returns-then-not-has-place c =
     let t = c.args.tables.now in
-    let h = c.in-ok-series.ensures in
-    let s = c.in-ok-series.series in
+    let h = c.in_ok-series.ensures in
+    let s = c.in_ok-series.series in
     let x = numbers c.args.kind c.args.month c.args.strike in
     let r : series_in (family_of t.family) x ≡ true = range_is t.family c.args.family c.requires c.args.kind c.args.month c.args.strike s h in
     let k : series_kind x ≡ s.kind = has_kind c.args.family c.args.kind c.args.month c.args.strike s h in
@@ -91,7 +91,7 @@ returns-then-not-has-place c =
     let o : is_on_step (family_of t.family) x ≡ c.on_step.result = step_is t.family c.args.family c.requires c.args.kind c.args.month c.args.strike s h ∙ sym c.on_step.ensures in
     let e : c.series-key.result ≡ key_of x = c.series-key.ensures.value ∙ has_key c.args.family c.args.kind c.args.month c.args.strike s h in
     let q : present (rows_of t.series) (key_of x) ≡ c.is-some.result = sym (c.is-some.ensures ∙ ap is_some (c.read.ensures ∙ ap (lookup (rows_of t.series)) e)) in
-    let m = month_same (rows_of t.series) (c.kind-2.ensures ∙ sym k) (ap (λ (y : Month). y.number) c.month.ensures ∙ h.has_month) (ok_unit c.in-ok-month-takes.was ∙ c.month-takes.ensures) in
+    let m = month_same (rows_of t.series) (c.kind-2.ensures ∙ sym k) (ap (λ (y : Month). y.number) c.month.ensures ∙ h.has_month) (ok_unit c.in_ok-month-takes.was ∙ c.month-takes.ensures) in
     let w = listed_fits t x c.args.first unpriced (q ∙ c.if-is-some.false) in
     passes _ _ _ r ∙ passes _ _ _ (f ∙ c.if-not-takes-first.false) ∙ passes _ _ _ (o ∙ c.if-not-on-step.false)
     ∙ passes _ _ _ (ap not (q ∙ c.if-is-some.false)) ∙ both_pass _ _ _ _ _ m
@@ -100,8 +100,8 @@ returns-then-not-has-place c =
 pub returns : goal.returns
 returns c =
     let t = c.args.tables.now in
-    let h = c.in-ok-series.ensures in
-    let s = c.in-ok-series.series in
+    let h = c.in_ok-series.ensures in
+    let s = c.in_ok-series.series in
     let x = numbers c.args.kind c.args.month c.args.strike in
     let r : series_in (family_of t.family) x ≡ true = range_is t.family c.args.family c.requires c.args.kind c.args.month c.args.strike s h in
     let k : series_kind x ≡ s.kind = has_kind c.args.family c.args.kind c.args.month c.args.strike s h in
@@ -110,7 +110,7 @@ returns c =
     let o : is_on_step (family_of t.family) x ≡ c.on_step.result = step_is t.family c.args.family c.requires c.args.kind c.args.month c.args.strike s h ∙ sym c.on_step.ensures in
     let e : c.series-key.result ≡ key_of x = c.series-key.ensures.value ∙ has_key c.args.family c.args.kind c.args.month c.args.strike s h in
     let q : present (rows_of t.series) (key_of x) ≡ c.is-some.result = sym (c.is-some.ensures ∙ ap is_some (c.read.ensures ∙ ap (lookup (rows_of t.series)) e)) in
-    let m = month_same (rows_of t.series) (c.kind-2.ensures ∙ sym k) (ap (λ (y : Month). y.number) c.month.ensures ∙ h.has_month) (ok_unit c.in-ok-month-takes.was ∙ c.month-takes.ensures) in
+    let m = month_same (rows_of t.series) (c.kind-2.ensures ∙ sym k) (ap (λ (y : Month). y.number) c.month.ensures ∙ h.has_month) (ok_unit c.in_ok-month-takes.was ∙ c.month-takes.ensures) in
     let w = listed_fits t x c.args.first unpriced (q ∙ c.if-is-some.false) in (
       passes _ _ _ r ∙ passes _ _ _ (f ∙ c.if-not-takes-first.false) ∙ passes _ _ _ (o ∙ c.if-not-on-step.false)
           ∙ passes _ _ _ (ap not (q ∙ c.if-is-some.false)) ∙ both_pass _ _ _ _ _ m

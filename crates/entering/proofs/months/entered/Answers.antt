@@ -18,16 +18,16 @@ use Rattle.tables.proofs.Following.{passes, fails}
 use Rattle.entering.proofs.Others.{family_tag}
 use Rattle.entering.proofs.months.entered.Goals as goal
 
-pub returns-in-err-month : goal.returns-in-err-month
-returns-in-err-month c =
+pub returns-in_err-month : goal.returns-in_err-month
+returns-in_err-month c =
     let p = err_from_is_err_and c.from-residual.result c.from-residual.ensures.1 in
-    let h = c.in-err-month.ensures in
+    let h = c.in_err-month.ensures in
     rw (p.1, p.2, h.1) (fails _ _ _ (month_out c.args.month h.0))
 
 pub returns-then-family-tables : goal.returns-then-family-tables
 returns-then-family-tables c =
     let t = c.args.tables.now in
-    let h = c.in-ok-month.ensures in
+    let h = c.in_ok-month.ensures in
     let m : month_in c.args.month ≡ true = month_in_lem c.args.month h.0 in
     let f : eqb (family_number c.args.family) t.family ≡ false = ne_eqb _ _ (λ q. c.if-family-tables.true (family_tag c.args.family ∙ q)) in
     passes _ _ _ m ∙ fails _ _ _ f ∙ search rules
@@ -35,7 +35,7 @@ returns-then-family-tables c =
 pub returns-in-default : goal.returns-in-default
 returns-in-default c =
     let t = c.args.tables.now in
-    let h = c.in-ok-month.ensures in
+    let h = c.in_ok-month.ensures in
     let m : month_in c.args.month ≡ true = month_in_lem c.args.month h.0 in
     let f : eqb (family_number c.args.family) t.family ≡ true = eq-eqb _ _ (sym (family_tag c.args.family) ∙ c.if-family-tables.false) in
     let x : leb c.args.price 10000000 ≡ true = le-leb _ _ c.requires in
@@ -47,7 +47,7 @@ returns-in-default c =
 pub returns-in-Trading : goal.returns-in-Trading
 returns-in-Trading c =
     let t = c.args.tables.now in
-    let h = c.in-ok-month.ensures in
+    let h = c.in_ok-month.ensures in
     let m : month_in c.args.month ≡ true = month_in_lem c.args.month h.0 in
     let f : eqb (family_number c.args.family) t.family ≡ true = eq-eqb _ _ (sym (family_tag c.args.family) ∙ c.if-family-tables.false) in
     let x : leb c.args.price 10000000 ≡ true = le-leb _ _ c.requires in
@@ -64,7 +64,7 @@ returns-in-Trading c =
 pub returns-in-Fixed : goal.returns-in-Fixed
 returns-in-Fixed c =
     let t = c.args.tables.now in
-    let h = c.in-ok-month.ensures in
+    let h = c.in_ok-month.ensures in
     let m : month_in c.args.month ≡ true = month_in_lem c.args.month h.0 in
     let f : eqb (family_number c.args.family) t.family ≡ true = eq-eqb _ _ (sym (family_tag c.args.family) ∙ c.if-family-tables.false) in
     let x : leb c.args.price 10000000 ≡ true = le-leb _ _ c.requires in

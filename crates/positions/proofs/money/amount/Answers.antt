@@ -9,9 +9,9 @@ pub returns : goal.returns
 unfolding amount
 returns c =
     let n = c.args.units in
-    let one = c.for-one-unit.result in
+    let one = c.for_one_unit.result in
     let fits : SFits w64 one = search rules in
     let e : to_z w64 (of_z w64 n) *ℤ to_z w64 (of_z w64 one) ≡ amount c.args.family n c.args.hundredths =
     ap (λ a. a *ℤ to_z w64 (of_z w64 one)) (to_z-of_z w64 n c.ranges.units)
-    ∙ ap (λ a. n *ℤ a) (to_z-of_z w64 one fits ∙ c.for-one-unit.ensures ∙ ap (λ h. pos (cents_of c.args.family) *ℤ h) (to_z-of_z w32 c.args.hundredths c.ranges.hundredths)) in
-    subst (λ (z : ℤ). SomeIff c.checked-mul.result (SFits w64 z) z) e c.checked-mul.ensures
+    ∙ ap (λ a. n *ℤ a) (to_z-of_z w64 one fits ∙ c.for_one_unit.ensures ∙ ap (λ h. pos (cents_of c.args.family) *ℤ h) (to_z-of_z w32 c.args.hundredths c.ranges.hundredths)) in
+    subst (λ (z : ℤ). SomeIff c.checked_mul.result (SFits w64 z) z) e c.checked_mul.ensures

@@ -20,47 +20,47 @@ use Rattle.settling.specs.Marks.{marking, moved}
 use Rattle.settling.proofs.Marked.{range_in, range_out, other_state, terms_found, difference, no_month, no_price, no_future, no_trading, follows_mark}
 use Rattle.settling.proofs.marking.mark.Goals as goal
 
-pub returns-in-err-family : goal.returns-in-err-family
-returns-in-err-family c σ w =
+pub returns-in_err-family : goal.returns-in_err-family
+returns-in_err-family c σ w =
     let t = c.args.tables.now in
     let e = marking c.args.month c.args.price in
     let p = err_from_is_err_and c.from-residual.result c.from-residual.ensures.1 in
-    subst (λ (r : Verdict). Follows e t t r) (sym (p.1 ∙ ap Err p.2)) (refused e t t _ refl (never_opened t e _ c.in-err-family.ensures))
+    subst (λ (r : Verdict). Follows e t t r) (sym (p.1 ∙ ap Err p.2)) (refused e t t _ refl (never_opened t e _ c.in_err-family.ensures))
 
-pub returns-in-err-month : goal.returns-in-err-month
-returns-in-err-month c σ w =
+pub returns-in_err-month : goal.returns-in_err-month
+returns-in_err-month c σ w =
     let t = c.args.tables.now in
-    let p = err_from_is_err_and c.from-residual-in-err-month.result c.from-residual-in-err-month.ensures.1 in
-    let h = c.in-err-month.ensures in
+    let p = err_from_is_err_and c.from-residual-in_err-month.result c.from-residual-in_err-month.ensures.1 in
+    let h = c.in_err-month.ensures in
     subst (λ (r : Verdict). Follows (marking c.args.month c.args.price) t t r) (sym (p.1 ∙ ap Err (p.2 ∙ h.1)))
-    (no_month t c.args.month c.args.price c.in-ok-family.ensures.0 (range_out 24000 25199 c.args.month h.0))
+    (no_month t c.args.month c.args.price c.in_ok-family.ensures.0 (range_out 24000 25199 c.args.month h.0))
 
-pub returns-in-err-price : goal.returns-in-err-price
-returns-in-err-price c σ w =
+pub returns-in_err-price : goal.returns-in_err-price
+returns-in_err-price c σ w =
     let t = c.args.tables.now in
-    let p = err_from_is_err_and c.from-residual-in-err-price.result c.from-residual-in-err-price.ensures.1 in
-    let h = c.in-err-price.ensures in
+    let p = err_from_is_err_and c.from-residual-in_err-price.result c.from-residual-in_err-price.ensures.1 in
+    let h = c.in_err-price.ensures in
     subst (λ (r : Verdict). Follows (marking c.args.month c.args.price) t t r) (sym (p.1 ∙ ap Err (p.2 ∙ h.1)))
-    (no_price t c.args.month c.args.price c.in-ok-family.ensures.0 (range_in 24000 25199 c.args.month c.in-ok-month.ensures.0)
+    (no_price t c.args.month c.args.price c.in_ok-family.ensures.0 (range_in 24000 25199 c.args.month c.in_ok-month.ensures.0)
     (range_out 1 10000000 c.args.price h.0))
 
 pub returns-in-default : goal.returns-in-default
 returns-in-default c σ w =
     let t = c.args.tables.now in
-    let key : c.future-key-future.result ≡ future_key c.args.month = c.future-key-future.ensures.value ∙ ap future_key c.in-ok-month.ensures.1 in
+    let key : c.future-key-future.result ≡ future_key c.args.month = c.future-key-future.ensures.value ∙ ap future_key c.in_ok-month.ensures.1 in
     subst (λ (r : Verdict). Follows (marking c.args.month c.args.price) t t r) (sym (ap Err c.plain.ensures))
-    (no_future t c.args.month c.args.price c.in-ok-family.ensures.0 (range_in 24000 25199 c.args.month c.in-ok-month.ensures.0)
-    (range_in 1 10000000 c.args.price c.in-ok-price.ensures.0)
+    (no_future t c.args.month c.args.price c.in_ok-family.ensures.0 (range_in 24000 25199 c.args.month c.in_ok-month.ensures.0)
+    (range_in 1 10000000 c.args.price c.in_ok-price.ensures.0)
     (ap is_some (ap (lookup (rows_of t.series)) (sym key) ∙ sym c.in-default.ensures)))
 
 pub returns-in-default-state : goal.returns-in-default-state
 returns-in-default-state c σ w =
     let t = c.args.tables.now in
-    let key : c.future-key-future.result ≡ future_key c.args.month = c.future-key-future.ensures.value ∙ ap future_key c.in-ok-month.ensures.1 in
+    let key : c.future-key-future.result ≡ future_key c.args.month = c.future-key-future.ensures.value ∙ ap future_key c.in_ok-month.ensures.1 in
     let found : lookup (rows_of t.series) (future_key c.args.month) ≡ Some c.in-Some.terms = ap (lookup (rows_of t.series)) (sym key) ∙ sym c.in-Some.ensures in
     subst (λ (r : Verdict). Follows (marking c.args.month c.args.price) t t r) (sym (ap Err c.plain-in-default-state.ensures))
-    (no_trading t c.args.month c.args.price c.in-ok-family.ensures.0 (range_in 24000 25199 c.args.month c.in-ok-month.ensures.0)
-    (range_in 1 10000000 c.args.price c.in-ok-price.ensures.0) (ap is_some found)
+    (no_trading t c.args.month c.args.price c.in_ok-family.ensures.0 (range_in 24000 25199 c.args.month c.in_ok-month.ensures.0)
+    (range_in 1 10000000 c.args.price c.in_ok-price.ensures.0) (ap is_some found)
     (ap (λ (x : Terms). is_trading x.state) (terms_found (rows_of t.series) (future_key c.args.month) c.in-Some.terms found) ∙ other_state c.in-Some.terms.state c.in-default-state.not-Trading))
 
 pub returns : goal.returns
@@ -69,20 +69,20 @@ returns c σ w =
     let t = c.args.tables.now in
     let b = model_of t in
     let s = future_key c.args.month in
-    let key : c.future-key-future.result ≡ s = c.future-key-future.ensures.value ∙ ap future_key c.in-ok-month.ensures.1 in
+    let key : c.future-key-future.result ≡ s = c.future-key-future.ensures.value ∙ ap future_key c.in_ok-month.ensures.1 in
     let found : lookup (rows_of t.series) s ≡ Some c.in-Some.terms = ap (lookup (rows_of t.series)) (sym key) ∙ sym c.in-Some.ensures in
     let same = terms_found (rows_of t.series) s c.in-Some.terms found in
     let fits : SFits w32 c.in-Some.terms.value = search rules in
-    let price : c.hundredths.result ≡ c.args.price = c.hundredths.ensures.value ∙ c.in-ok-price.ensures.1 in
+    let price : c.hundredths.result ≡ c.args.price = c.hundredths.ensures.value ∙ c.in_ok-price.ensures.1 in
     let cents : c.in-Some-between.gain.cents ≡ pos (cents_of (family_in b)) *ℤ (pos c.args.price -ℤ value_at b s) =
     c.in-Some-between.ensures
-    ∙ ap (λ (y : ℤ). pos (cents_of c.in-ok-family.family) *ℤ (pos c.hundredths.result -ℤ y)) (to_z-of_z w32 c.in-Some.terms.value fits ∙ ap (λ (x : Terms). x.value) (sym same))
-    ∙ ap (λ (y : ℕ). pos (cents_of c.in-ok-family.family) *ℤ (pos y -ℤ value_at b s)) price
-    ∙ ap (λ (f : Family). pos (cents_of f) *ℤ (pos c.args.price -ℤ value_at b s)) (sym c.in-ok-family.ensures.1) in
-    follows_mark t c.args.month c.args.price c.in-ok-family.ensures.0 (range_in 24000 25199 c.args.month c.in-ok-month.ensures.0)
-    (range_in 1 10000000 c.args.price c.in-ok-price.ensures.0) (ap is_some found) (ap (λ (x : Terms). is_trading x.state) same ∙ ap is_trading c.in-Trading.is) σ w
+    ∙ ap (λ (y : ℤ). pos (cents_of c.in_ok-family.family) *ℤ (pos c.hundredths.result -ℤ y)) (to_z-of_z w32 c.in-Some.terms.value fits ∙ ap (λ (x : Terms). x.value) (sym same))
+    ∙ ap (λ (y : ℕ). pos (cents_of c.in_ok-family.family) *ℤ (pos y -ℤ value_at b s)) price
+    ∙ ap (λ (f : Family). pos (cents_of f) *ℤ (pos c.args.price -ℤ value_at b s)) (sym c.in_ok-family.ensures.1) in
+    follows_mark t c.args.month c.args.price c.in_ok-family.ensures.0 (range_in 24000 25199 c.args.month c.in_ok-month.ensures.0)
+    (range_in 1 10000000 c.args.price c.in_ok-price.ensures.0) (ap is_some found) (ap (λ (x : Terms). is_trading x.state) same ∙ ap is_trading c.in-Trading.is) σ w
     c.move-mark.new.tables (gains c.in-Some-between.gain) c.move-mark.result (ap {B = Position → ℤ} (λ (y : ℤ). λ l. units l *ℤ y) cents)
     (c.move-mark.ensures.answer ∙ ap (λ (k : ℕ). tested (gains c.in-Some-between.gain) (in_series k (rows_of t.positions)) (rows_of t.accounts)) key)
     (c.move-mark.ensures.book
-    ∙ ap (λ (k : ℕ). cond (accepted c.move-mark.result) (moved (gains c.in-Some-between.gain) k c.in-ok-price.price.hundredths b) b) key
-    ∙ ap (λ (v : ℕ). cond (accepted c.move-mark.result) (moved (gains c.in-Some-between.gain) s v b) b) c.in-ok-price.ensures.1)
+    ∙ ap (λ (k : ℕ). cond (accepted c.move-mark.result) (moved (gains c.in-Some-between.gain) k c.in_ok-price.price.hundredths b) b) key
+    ∙ ap (λ (v : ℕ). cond (accepted c.move-mark.result) (moved (gains c.in-Some-between.gain) s v b) b) c.in_ok-price.ensures.1)

@@ -24,14 +24,14 @@ lent r s from to ks vs e d h =
     ∙ ap (λ (xs : List Position). zip (between from to (keys_in (rows_of r))) (between from to xs)) d
     ∙ series_rows s from to (rows_of r) (rising r) h
 
-pub returns-in-err-test-gains : goal.returns-in-err-test-gains
-returns-in-err-test-gains c =
+pub returns-in_err-test-gains : goal.returns-in_err-test-gains
+returns-in_err-test-gains c =
     let t = c.args.tables.now in
     let rows = lent t.positions c.args.future c.stretch-from.result.from c.stretch-from.result.to _ _ c.keys.ensures.value c.contents.ensures.value c.stretch-from.ensures.places in
     let p = err_from_is_err_and c.from-residual.result c.from-residual.ensures.1 in
     let e = p.1 ∙ ap Err p.2 in
     record {
-      answer = e ∙ c.in-err-test-gains.ensures ∙ ap (λ (rs : Rows Position). tested (gains c.args.gain) rs (rows_of t.accounts)) rows;
+      answer = e ∙ c.in_err-test-gains.ensures ∙ ap (λ (rs : Rows Position). tested (gains c.args.gain) rs (rows_of t.accounts)) rows;
       book = rw e refl;
     }
 
@@ -43,7 +43,7 @@ post-gains-requires c =
     let cs = rows_of t.accounts in
     let ps = rows_of t.positions in
     let rows = lent t.positions s c.stretch-from.result.from c.stretch-from.result.to _ _ c.keys.ensures.value c.contents.ensures.value c.stretch-from.ensures.places in
-    let good : tested f (in_series s ps) cs ≡ Ok tt = ap (λ (rs : Rows Position). tested f rs cs) (sym rows) ∙ sym c.in-ok-test-gains.ensures in
+    let good : tested f (in_series s ps) cs ≡ Ok tt = ap (λ (rs : Rows Position). tested f rs cs) (sym rows) ∙ sym c.in_ok-test-gains.ensures in
     record {
       even = search rules;
       ready = subst (λ (rs : Rows Position). Ready f rs cs) (sym rows) (ready f s 0 (in_series s ps) cs (in_order s ps (rising t.positions)) (all_in s ps) (all_afforded f (in_series s ps) cs good));
@@ -60,7 +60,7 @@ returns c =
     let paid = c.post-gains.ensures.rows ∙ ap (λ (rs : Rows Position). pay_all f rs cs) rows in
     let set = c.set-value.ensures.rows ∙ ap (λ (y : ℤ). change unlisted (valued y) s (rows_of t.series)) v in
     record {
-      answer = c.in-ok-test-gains.ensures ∙ ap (λ (rs : Rows Position). tested f rs cs) rows;
+      answer = c.in_ok-test-gains.ensures ∙ ap (λ (rs : Rows Position). tested f rs cs) rows;
       book = λ i. record {
         family = t.family;
         spaces = record { accounts = c.post-gains.ensures.room i; series = c.set-value.ensures.room i; positions = t.positions.room };

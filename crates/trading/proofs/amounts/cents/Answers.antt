@@ -2,8 +2,8 @@ use Rattle.std.proofs.Common.{pos, ap, ◌∙◌}
 use Rattle.trading.proofs.Products.{in_cents}
 use Rattle.trading.proofs.amounts.cents.Goals as goal
 
-pub overflow-mul-result-2 : goal.overflow-mul-result-2
-overflow-mul-result-2 c =
+pub overflow_mul-result-2 : goal.overflow_mul-result-2
+overflow_mul-result-2 c =
     (in_cents c.args.family c.args.units c.from.result c.args.hundredths c.requires.units c.requires.hundredths (c.from.ensures ∙ ap pos c.cents-per-hundredth.ensures)
     ).fits
 

@@ -21,15 +21,15 @@ use Rattle.trading.proofs.Reading.{took, left_out}
 use Rattle.trading.proofs.Tested.{known_so, buyer_test, seller_test, leg_is, exchange_is}
 use Rattle.trading.proofs.amounts.outcome.Goals as goal
 
-pub overflow-sub-cash-2 : goal.overflow-sub-cash-2
-overflow-sub-cash-2 c = omega (arith, ints, c.cash-cash.ensures.bound)
+pub overflow_sub-cash-2 : goal.overflow_sub-cash-2
+overflow_sub-cash-2 c = omega (arith, ints, c.cash-cash.ensures.bound)
 
-pub overflow-sub-cash-3 : goal.overflow-sub-cash-3
-overflow-sub-cash-3 c = omega (arith, ints, c.cash-cash.ensures.bound, c.requires.fees)
+pub overflow_sub-cash-3 : goal.overflow_sub-cash-3
+overflow_sub-cash-3 c = omega (arith, ints, c.cash-cash.ensures.bound, c.requires.fees)
 
-pub returns-in-err-buyer : goal.returns-in-err-buyer
+pub returns-in_err-buyer : goal.returns-in_err-buyer
 unfolding afforded
-returns-in-err-buyer c p hb hs =
+returns-in_err-buyer c p hb hs =
     let b = model_of c.args.tables.now in
     let d = c.args.deal.now in
     let t = trade_in d in
@@ -51,12 +51,12 @@ returns-in-err-buyer c p hb hs =
     let xb : to_z w64 (of_z w64 (to_z w64 (of_z w64 r) -ℤ to_z w64 c.args.fees.0)) ≡ cash_in b t -ℤ fee_on b t p t.buyer = omega (arith, ints) in
     let tb = buyer_test b t p lb ls κ o m.buyer q.buyer _ c.requires.moves.buyer be xb in
     let e = err_from_is_err_and c.from-residual.result c.from-residual.ensures.1 in
-    let h = alone _ _ _ c.in-err-buyer.ensures in
+    let h = alone _ _ _ c.in_err-buyer.ensures in
     rw (e.1, e.2) (fails _ _ _ (tb ∙ h.0) ∙ ap Err (sym (h.1 ∙ ap (λ (s : Side). about AmountOutOfRange s.account) sb)))
 
-pub returns-in-err-seller : goal.returns-in-err-seller
+pub returns-in_err-seller : goal.returns-in_err-seller
 unfolding afforded
-returns-in-err-seller c p hb hs =
+returns-in_err-seller c p hb hs =
     let b = model_of c.args.tables.now in
     let d = c.args.deal.now in
     let t = trade_in d in
@@ -81,9 +81,9 @@ returns-in-err-seller c p hb hs =
     let ss : c.side-selling.result ≡ _ = c.side-selling.ensures ∙ ap (λ (e : Account). trade_side t t.seller e.kind) se in
     let xs : to_z w64 (of_z w64 (to_z w64 (of_z w64 (pos 0 -ℤ to_z w64 (of_z w64 r))) -ℤ to_z w64 c.args.fees.1)) ≡ neg_ℤ (cash_in b t) -ℤ fee_on b t p t.seller = omega (arith, ints) in
     let ts = seller_test b t p lb ls κ o m.seller q.seller _ c.requires.moves.seller se xs in
-    let buys = c.in-ok-buyer.ensures in
-    let e = err_from_is_err_and c.from-residual-in-err-seller.result c.from-residual-in-err-seller.ensures.1 in
-    let h = alone _ _ _ c.in-err-seller.ensures in
+    let buys = c.in_ok-buyer.ensures in
+    let e = err_from_is_err_and c.from-residual-in_err-seller.result c.from-residual-in_err-seller.ensures.1 in
+    let h = alone _ _ _ c.in_err-seller.ensures in
     rw (e.1, e.2)
     (passes _ _ _ (tb ∙ (need_so _ _ _ buys.0).0)
     ∙ fails _ _ _ (ts ∙ h.0)
@@ -116,8 +116,8 @@ returns-in-default c p hb hs =
     let ss : c.side-selling.result ≡ _ = c.side-selling.ensures ∙ ap (λ (e : Account). trade_side t t.seller e.kind) se in
     let xs : to_z w64 (of_z w64 (to_z w64 (of_z w64 (pos 0 -ℤ to_z w64 (of_z w64 r))) -ℤ to_z w64 c.args.fees.1)) ≡ neg_ℤ (cash_in b t) -ℤ fee_on b t p t.seller = omega (arith, ints) in
     let ts = seller_test b t p lb ls κ o m.seller q.seller _ c.requires.moves.seller se xs in
-    let buys = c.in-ok-buyer.ensures in
-    let sells = c.in-ok-seller.ensures in
+    let buys = c.in_ok-buyer.ensures in
+    let sells = c.in_ok-seller.ensures in
     let fe : SFits w64 c.args.tables.now.exchange = search rules in
     let xe : to_z w64 (of_z w64 b.exchange) +ℤ to_z w64 (c.args.fees.0 + c.args.fees.1) ≡ b.exchange +ℤ (fee_on b t p t.buyer +ℤ fee_on b t p t.seller) = omega (arith, ints) in
     passes _ _ _ (tb ∙ (need_so _ _ _ buys.0).0)
@@ -152,8 +152,8 @@ returns c p hb hs =
     let ss : c.side-selling.result ≡ _ = c.side-selling.ensures ∙ ap (λ (e : Account). trade_side t t.seller e.kind) se in
     let xs : to_z w64 (of_z w64 (to_z w64 (of_z w64 (pos 0 -ℤ to_z w64 (of_z w64 r))) -ℤ to_z w64 c.args.fees.1)) ≡ neg_ℤ (cash_in b t) -ℤ fee_on b t p t.seller = omega (arith, ints) in
     let ts = seller_test b t p lb ls κ o m.seller q.seller _ c.requires.moves.seller se xs in
-    let buys = c.in-ok-buyer.ensures in
-    let sells = c.in-ok-seller.ensures in
+    let buys = c.in_ok-buyer.ensures in
+    let sells = c.in_ok-seller.ensures in
     let fe : SFits w64 c.args.tables.now.exchange = search rules in
     let xe : to_z w64 (of_z w64 b.exchange) +ℤ to_z w64 (c.args.fees.0 + c.args.fees.1) ≡ b.exchange +ℤ (fee_on b t p t.buyer +ℤ fee_on b t p t.seller) = omega (arith, ints) in
     let fx : SFits w64 c.in-Some.exchange = search rules in
@@ -162,8 +162,8 @@ returns c p hb hs =
           ∙ passes _ _ _ (ts ∙ (need_so _ _ _ sells.0).0)
           ∙ passes _ _ _ (ap balance_in (exchange_is b t p ∙ sym xe) ∙ h.0),
       record {
-        buyer = leg_is b t t.buyer _ q.buyer m.buyer _ _ _ c.in-ok-buyer.buyer buys.1 sb c.requires.moves.buyer be xb;
-        seller = leg_is b t t.seller _ q.seller m.seller _ _ _ c.in-ok-seller.seller sells.1 ss c.requires.moves.seller se xs;
+        buyer = leg_is b t t.buyer _ q.buyer m.buyer _ _ _ c.in_ok-buyer.buyer buys.1 sb c.requires.moves.buyer be xb;
+        seller = leg_is b t t.seller _ q.seller m.seller _ _ _ c.in_ok-seller.seller sells.1 ss c.requires.moves.seller se xs;
         exchange = to_z-of_z w64 c.in-Some.exchange fx ∙ h.1 ∙ xe;
       },
     )

@@ -9,19 +9,19 @@ use Rattle.trading.proofs.Chains.{need_so, alone, either_fails}
 use Rattle.trading.proofs.Entry.{price_in_lem, price_out}
 use Rattle.trading.proofs.door.deal.Goals as goal
 
-pub returns-in-err-series : goal.returns-in-err-series
+pub returns-in_err-series : goal.returns-in_err-series
 unfolding asked
-returns-in-err-series c =
+returns-in_err-series c =
     let p = err_from_is_err_and c.from-residual.result c.from-residual.ensures.1 in
-    let h = alone _ _ _ c.in-err-series.ensures in
+    let h = alone _ _ _ c.in_err-series.ensures in
     rw (p.1, p.2) (fails _ _ _ h.0 ∙ ap Err (sym h.1))
 
-pub returns-in-err-size : goal.returns-in-err-size
+pub returns-in_err-size : goal.returns-in_err-size
 unfolding asked
-returns-in-err-size c =
-    let p = err_from_is_err_and c.from-residual-in-err-size.result c.from-residual-in-err-size.ensures.1 in
-    let s = c.in-ok-series.ensures in
-    let h = alone _ _ _ c.in-err-size.ensures in
+returns-in_err-size c =
+    let p = err_from_is_err_and c.from-residual-in_err-size.result c.from-residual-in_err-size.ensures.1 in
+    let s = c.in_ok-series.ensures in
+    let h = alone _ _ _ c.in_err-size.ensures in
     rw (p.1, p.2)
     (passes _ _ _ (need_so _ _ _ s.0).0
     ∙ fails _ _ _ (sym (ap (λ (x : calls.Series). size_offered c.args.family x c.args.trade.size) s.1) ∙ h.0)
@@ -30,8 +30,8 @@ returns-in-err-size c =
 pub returns-then-not-accounts-in-range : goal.returns-then-not-accounts-in-range
 unfolding asked
 returns-then-not-accounts-in-range c =
-    let s = c.in-ok-series.ensures in
-    let z = need_so _ _ _ c.in-ok-size.ensures.0 in
+    let s = c.in_ok-series.ensures in
+    let z = need_so _ _ _ c.in_ok-size.ensures.0 in
     passes _ _ _ (need_so _ _ _ s.0).0
     ∙ passes _ _ _ (sym (ap (λ (x : calls.Series). size_offered c.args.family x c.args.trade.size) s.1) ∙ z.0)
     ∙ either_fails _ _ _ _ (sym c.if-not-accounts-in-range.ensures)
@@ -40,8 +40,8 @@ returns-then-not-accounts-in-range c =
 pub returns-then-not-count-in-range : goal.returns-then-not-count-in-range
 unfolding asked
 returns-then-not-count-in-range c =
-    let s = c.in-ok-series.ensures in
-    let z = need_so _ _ _ c.in-ok-size.ensures.0 in
+    let s = c.in_ok-series.ensures in
+    let z = need_so _ _ _ c.in_ok-size.ensures.0 in
     let a = and_parts _ _ (sym c.if-not-accounts-in-range.ensures) in
     passes _ _ _ (need_so _ _ _ s.0).0
     ∙ passes _ _ _ (sym (ap (λ (x : calls.Series). size_offered c.args.family x c.args.trade.size) s.1) ∙ z.0)
@@ -50,14 +50,14 @@ returns-then-not-count-in-range c =
     ∙ fails _ _ _ (sym c.if-not-count-in-range.ensures)
     ∙ ap Err (sym c.plain-then-not-count-in-range.ensures)
 
-pub returns-in-err-price : goal.returns-in-err-price
+pub returns-in_err-price : goal.returns-in_err-price
 unfolding asked
-returns-in-err-price c =
-    let p = err_from_is_err_and c.from-residual-in-err-price.result c.from-residual-in-err-price.ensures.1 in
-    let s = c.in-ok-series.ensures in
-    let z = need_so _ _ _ c.in-ok-size.ensures.0 in
+returns-in_err-price c =
+    let p = err_from_is_err_and c.from-residual-in_err-price.result c.from-residual-in_err-price.ensures.1 in
+    let s = c.in_ok-series.ensures in
+    let z = need_so _ _ _ c.in_ok-size.ensures.0 in
     let a = and_parts _ _ (sym c.if-not-accounts-in-range.ensures) in
-    let h = c.in-err-price.ensures in
+    let h = c.in_err-price.ensures in
     rw (p.1, p.2)
     (passes _ _ _ (need_so _ _ _ s.0).0
     ∙ passes _ _ _ (sym (ap (λ (x : calls.Series). size_offered c.args.family x c.args.trade.size) s.1) ∙ z.0)
@@ -71,10 +71,10 @@ pub returns-then-not-on-grid : goal.returns-then-not-on-grid
 unfolding asked
 returns-then-not-on-grid c =
     let f = c.args.family in
-    let s = c.in-ok-series.ensures in
-    let z = need_so _ _ _ c.in-ok-size.ensures.0 in
+    let s = c.in_ok-series.ensures in
+    let z = need_so _ _ _ c.in_ok-size.ensures.0 in
     let a = and_parts _ _ (sym c.if-not-accounts-in-range.ensures) in
-    let h = c.in-ok-price.ensures in
+    let h = c.in_ok-price.ensures in
     passes _ _ _ (need_so _ _ _ s.0).0
     ∙ passes _ _ _ (sym (ap (λ (x : calls.Series). size_offered f x c.args.trade.size) s.1) ∙ z.0)
     ∙ passes _ _ _ a.0
@@ -88,10 +88,10 @@ pub returns : goal.returns
 unfolding asked
 returns c =
     let f = c.args.family in
-    let s = c.in-ok-series.ensures in
-    let z = need_so _ _ _ c.in-ok-size.ensures.0 in
+    let s = c.in_ok-series.ensures in
+    let z = need_so _ _ _ c.in_ok-size.ensures.0 in
     let a = and_parts _ _ (sym c.if-not-accounts-in-range.ensures) in
-    let h = c.in-ok-price.ensures in
+    let h = c.in_ok-price.ensures in
     let g = and_parts _ _ (sym c.if-not-on-grid.ensures) in (
       passes _ _ _ (need_so _ _ _ s.0).0
           ∙ passes _ _ _ (sym (ap (λ (x : calls.Series). size_offered f x c.args.trade.size) s.1) ∙ z.0)
@@ -103,7 +103,7 @@ returns c =
           ∙ passes _ _ _ (ap (on_tick f) (sym h.1) ∙ g.1),
       λ i. record {
         series = s.1 i;
-        size = c.in-ok-size.ensures.1 i;
+        size = c.in_ok-size.ensures.1 i;
         buyer = c.args.trade.buyer;
         seller = c.args.trade.seller;
         count = c.args.trade.count;

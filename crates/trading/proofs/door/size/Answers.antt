@@ -5,20 +5,20 @@ use Rattle.trading.specs.Deals.{series_from}
 use Rattle.trading.proofs.Entry.{kind_of_lem, size_is, size_out}
 use Rattle.trading.proofs.door.size.Goals as goal
 
-pub returns-in-err-size : goal.returns-in-err-size
-returns-in-err-size c =
+pub returns-in_err-size : goal.returns-in_err-size
+returns-in_err-size c =
     let p = err_from_is_err_and c.from-residual.result c.from-residual.ensures.1 in
-    let h = c.in-err-size.ensures in
+    let h = c.in_err-size.ensures in
     rw (p.1, p.2) (fails _ _ _ (size_out c.args.family (series_from c.args.series) c.args.number h.0) ∙ ap Err (sym h.1))
 
 pub returns-then-not-has-size : goal.returns-then-not-has-size
 returns-then-not-has-size c =
-    let h = c.in-ok-size.ensures in
-    let e = size_is c.args.family (series_from c.args.series) c.kind.result c.in-ok-size.size c.args.number (kind_of_lem c.args.series.kind ∙ sym c.kind.ensures) h.1 in
+    let h = c.in_ok-size.ensures in
+    let e = size_is c.args.family (series_from c.args.series) c.kind.result c.in_ok-size.size c.args.number (kind_of_lem c.args.series.kind ∙ sym c.kind.ensures) h.1 in
     fails _ _ _ (e ∙ sym c.has-size.ensures ∙ c.if-not-has-size.true) ∙ ap Err (sym c.plain.ensures)
 
 pub returns : goal.returns
 returns c =
-    let h = c.in-ok-size.ensures in
-    let e = size_is c.args.family (series_from c.args.series) c.kind.result c.in-ok-size.size c.args.number (kind_of_lem c.args.series.kind ∙ sym c.kind.ensures) h.1 in
+    let h = c.in_ok-size.ensures in
+    let e = size_is c.args.family (series_from c.args.series) c.kind.result c.in_ok-size.size c.args.number (kind_of_lem c.args.series.kind ∙ sym c.kind.ensures) h.1 in
     (passes _ _ _ (e ∙ sym c.has-size.ensures ∙ c.if-not-has-size.false), h.1)

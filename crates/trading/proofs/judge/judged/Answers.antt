@@ -13,75 +13,75 @@ use Rattle.trading.proofs.Chains.{also_ok, also_err}
 use Rattle.trading.proofs.Whole.{judged_by, opened_room}
 use Rattle.trading.proofs.judge.judged.Goals as goal
 
-pub returns-in-err-family : goal.returns-in-err-family
-returns-in-err-family g c =
+pub returns-in_err-family : goal.returns-in_err-family
+returns-in_err-family g c =
     let e = err_from_is_err_and c.from-residual.result c.from-residual.ensures.1 in
     let p = g.T.Tariff.price c.args.tariff.now in
-    rw (e.1, e.2) (never_opened c.args.tables.now (event_of p (trade_of c.args.trade)) _ c.in-err-family.ensures)
+    rw (e.1, e.2) (never_opened c.args.tables.now (event_of p (trade_of c.args.trade)) _ c.in_err-family.ensures)
 
-pub returns-in-err-deal : goal.returns-in-err-deal
-returns-in-err-deal g c =
-    let e = err_from_is_err_and c.from-residual-in-err-deal.result c.from-residual-in-err-deal.ensures.1 in
+pub returns-in_err-deal : goal.returns-in_err-deal
+returns-in_err-deal g c =
+    let e = err_from_is_err_and c.from-residual-in_err-deal.result c.from-residual-in_err-deal.ensures.1 in
     let u = c.args.tables.now in
     let t = trade_of c.args.trade in
     let p = g.T.Tariff.price c.args.tariff.now in
-    let f = c.in-ok-family.ensures in
-    rw (e.1, e.2) (judged_by u t p f.0 ∙ also_err _ _ _ (ap (λ (x : Family). asked x t) f.1 ∙ c.in-err-deal.ensures))
+    let f = c.in_ok-family.ensures in
+    rw (e.1, e.2) (judged_by u t p f.0 ∙ also_err _ _ _ (ap (λ (x : Family). asked x t) f.1 ∙ c.in_err-deal.ensures))
 
-pub returns-in-err-parties : goal.returns-in-err-parties
-returns-in-err-parties g c =
-    let e = err_from_is_err_and c.from-residual-in-err-parties.result c.from-residual-in-err-parties.ensures.1 in
+pub returns-in_err-parties : goal.returns-in_err-parties
+returns-in_err-parties g c =
+    let e = err_from_is_err_and c.from-residual-in_err-parties.result c.from-residual-in_err-parties.ensures.1 in
     let u = c.args.tables.now in
     let p = g.T.Tariff.price c.args.tariff.now in
-    let f = c.in-ok-family.ensures in
-    let d = c.in-ok-deal.ensures in
-    let t = trade_in c.in-ok-deal.deal in
+    let f = c.in_ok-family.ensures in
+    let d = c.in_ok-deal.ensures in
+    let t = trade_in c.in_ok-deal.deal in
     let numbers = ap₂ asked f.1 d.1 ∙ d.0 in
     rw (e.1, e.2)
     (ap (λ (x : calls.Trade). judge (model_of u) (event_of p x)) (sym d.1)
     ∙ judged_by u t p f.0
     ∙ also_ok _ _ numbers
-    ∙ also_err _ _ _ c.in-err-parties.ensures)
+    ∙ also_err _ _ _ c.in_err-parties.ensures)
 
 pub allowed-requires : goal.allowed-requires
 allowed-requires g c =
     let u = c.args.tables.now in
-    let f = c.in-ok-family.ensures in
+    let f = c.in_ok-family.ensures in
     record {
       family = f.1;
       room = opened_room u.family (spaces_of u) f.0;
-      known = c.in-ok-parties.ensures.0;
+      known = c.in_ok-parties.ensures.0;
       moves = c.moves-moves.ensures;
     }
 
-pub returns-in-err-allowed : goal.returns-in-err-allowed
-returns-in-err-allowed g c =
-    let e = err_from_is_err_and c.from-residual-in-err-allowed.result c.from-residual-in-err-allowed.ensures.1 in
+pub returns-in_err-allowed : goal.returns-in_err-allowed
+returns-in_err-allowed g c =
+    let e = err_from_is_err_and c.from-residual-in_err-allowed.result c.from-residual-in_err-allowed.ensures.1 in
     let u = c.args.tables.now in
     let p = g.T.Tariff.price c.args.tariff.now in
-    let f = c.in-ok-family.ensures in
-    let d = c.in-ok-deal.ensures in
-    let t = trade_in c.in-ok-deal.deal in
+    let f = c.in_ok-family.ensures in
+    let d = c.in_ok-deal.ensures in
+    let t = trade_in c.in_ok-deal.deal in
     let numbers = ap₂ asked f.1 d.1 ∙ d.0 in
     rw (e.1, e.2)
     (ap (λ (x : calls.Trade). judge (model_of u) (event_of p x)) (sym d.1)
     ∙ judged_by u t p f.0
     ∙ also_ok _ _ numbers
-    ∙ also_ok _ _ c.in-ok-parties.ensures.0
-    ∙ also_err _ _ _ (sym (c.in-err-allowed.ensures p)))
+    ∙ also_ok _ _ c.in_ok-parties.ensures.0
+    ∙ also_err _ _ _ (sym (c.in_err-allowed.ensures p)))
 
 pub returns : goal.returns
 returns g c =
     let u = c.args.tables.now in
     let p = g.T.Tariff.price c.args.tariff.now in
-    let f = c.in-ok-family.ensures in
-    let d = c.in-ok-deal.ensures in
-    let t = trade_in c.in-ok-deal.deal in
+    let f = c.in_ok-family.ensures in
+    let d = c.in_ok-deal.ensures in
+    let t = trade_in c.in_ok-deal.deal in
     let numbers = ap₂ asked f.1 d.1 ∙ d.0 in
     let whole =
     judged_by u t p f.0
     ∙ also_ok _ _ numbers
-    ∙ also_ok _ _ c.in-ok-parties.ensures.0
-    ∙ also_ok _ _ (sym (c.in-ok-allowed.ensures p)) in
+    ∙ also_ok _ _ c.in_ok-parties.ensures.0
+    ∙ also_ok _ _ (sym (c.in_ok-allowed.ensures p)) in
     subst (λ (x : calls.Trade). Judges (judge (model_of u) (event_of p x)) (OutcomeOf (model_of u) x p) c.priced.result) d.1
     (subst (λ (v : Verdict). Judges v (OutcomeOf (model_of u) t p) c.priced.result) (sym whole) c.priced.ensures)

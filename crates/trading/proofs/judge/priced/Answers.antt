@@ -12,14 +12,14 @@ use Rattle.trading.proofs.Chains.{also_ok, also_err}
 use Rattle.trading.proofs.Rated.{both_rated, all_rated, one_unrated}
 use Rattle.trading.proofs.judge.priced.Goals as goal
 
-pub returns-in-err-fees : goal.returns-in-err-fees
-returns-in-err-fees g c =
+pub returns-in_err-fees : goal.returns-in_err-fees
+returns-in_err-fees g c =
     let t = trade_in c.args.deal.now in
     let p = g.T.Tariff.price c.args.tariff.now in
     let sb : c.side-buyer.result ≡ _ = c.side-buyer.ensures ∙ ap (λ (x : Parties). trade_side t t.buyer x.buyer.kind) c.requires.parties in
     let ss : c.side-seller.result ≡ _ = c.side-seller.ensures ∙ ap (λ (x : Parties). trade_side t t.seller x.seller.kind) c.requires.parties in
     let e = err_from_is_err_and c.from-residual.result c.from-residual.ensures.1 in
-    let h = one_unrated p c.side-buyer.result c.side-seller.result _ c.in-err-fees.ensures.answer in
+    let h = one_unrated p c.side-buyer.result c.side-seller.result _ c.in_err-fees.ensures.answer in
     rw (e.1, e.2) (also_err _ _ _ (ap₂ (λ (x y : Side). rated_all p (x ∷ y ∷ [])) (sym sb) (sym ss) ∙ h))
 
 pub returns : goal.returns
@@ -29,8 +29,8 @@ returns g c =
     let p = g.T.Tariff.price c.args.tariff.now in
     let sb : c.side-buyer.result ≡ _ = c.side-buyer.ensures ∙ ap (λ (x : Parties). trade_side t t.buyer x.buyer.kind) c.requires.parties in
     let ss : c.side-seller.result ≡ _ = c.side-seller.ensures ∙ ap (λ (x : Parties). trade_side t t.seller x.seller.kind) c.requires.parties in
-    let fees = c.in-ok-fees.fees in
-    let h = both_rated p c.side-buyer.result c.side-seller.result fees.0 fees.1 c.in-ok-fees.ensures.answer in
+    let fees = c.in_ok-fees.fees in
+    let h = both_rated p c.side-buyer.result c.side-seller.result fees.0 fees.1 c.in_ok-fees.ensures.answer in
     let all = ap₂ (λ (x y : Side). rated_all p (x ∷ y ∷ [])) (sym sb) (sym ss) ∙ all_rated p c.side-buyer.result c.side-seller.result fees.0 fees.1 h.0 h.1 in
     subst (λ (v : Verdict). Judges v (OutcomeOf b t p) c.outcome.result) (sym (also_ok _ _ all))
     (c.outcome.ensures p (ap (λ (x : Side). fee_of (p x)) (sym sb) ∙ ap fee_of h.0) (ap (λ (x : Side). fee_of (p x)) (sym ss) ∙ ap fee_of h.1))

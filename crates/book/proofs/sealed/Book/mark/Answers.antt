@@ -4,8 +4,8 @@ use Rattle.ledger.proofs.Reached.{lasting}
 use Rattle.book.proofs.History.{onward, answers}
 use Rattle.book.proofs.sealed.Book.mark.Goals as goal
 
-pub invariant-of-self : goal.invariant-of-self
-invariant-of-self c =
+pub invariant_of-self : goal.invariant_of-self
+invariant_of-self c =
     let h = c.args.self.now.reached in
     (onward _ c.args.self.now.tables _ _ h (c.mark.ensures (lasting.sound _ h) (lasting.owned _ h)), tt)
 

@@ -3,8 +3,8 @@ use Rattle.ledger.specs.Reached.{Reached}
 use Rattle.ledger.proofs.Reached.{lasting}
 use Rattle.book.proofs.sealed.Book.open.Goals as goal
 
-pub invariant-of-result : goal.invariant-of-result
-invariant-of-result c = (subst Reached (sym c.open.ensures) (lasting.start _ _), tt)
+pub invariant_of-result : goal.invariant_of-result
+invariant_of-result c = (subst Reached (sym c.open.ensures) (lasting.start _ _), tt)
 
 pub returns : goal.returns
 returns c = record { book = c.open.ensures; law = lasting.upheld _ (subst Reached (sym c.open.ensures) (lasting.start _ _)) }

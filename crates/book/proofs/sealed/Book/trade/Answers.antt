@@ -1,8 +1,8 @@
 use Rattle.book.proofs.History.{onward, answers}
 use Rattle.book.proofs.sealed.Book.trade.Goals as goal
 
-pub invariant-of-self : goal.invariant-of-self
-invariant-of-self g c = (onward _ c.args.self.now.tables _ _ c.args.self.now.reached c.trade.ensures.follows, tt)
+pub invariant_of-self : goal.invariant_of-self
+invariant_of-self g c = (onward _ c.args.self.now.tables _ _ c.args.self.now.reached c.trade.ensures.follows, tt)
 
 pub returns : goal.returns
 returns g c = record {

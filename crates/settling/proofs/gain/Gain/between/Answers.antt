@@ -11,13 +11,13 @@ one x = to_z w64 (of_z w64 x)
 abbrev move : ℤ → ℤ → ℤ
 move x y = to_z w64 (of_z w64 (to_z w64 (of_z w64 x) -ℤ to_z w64 (of_z w64 y)))
 
-pub overflow-mul-cents : goal.overflow-mul-cents
-overflow-mul-cents c =
+pub overflow_mul-cents : goal.overflow_mul-cents
+overflow_mul-cents c =
     let m = cents_most c.args.family in
     product_fits (one c.from-3.result) (move c.from.result c.from-2.result) 20 20000000 (omega (arith, ints)) (omega (arith, ints)) (omega arith)
 
-pub invariant-of-result : goal.invariant-of-result
-invariant-of-result c =
+pub invariant_of-result : goal.invariant_of-result
+invariant_of-result c =
     let m = cents_most c.args.family in
     let x = one c.from-3.result in
     let y = move c.from.result c.from-2.result in

@@ -4,8 +4,8 @@ use Rattle.positions.specs.Positions.{units}
 use Rattle.settling.proofs.Products.{product_fits}
 use Rattle.settling.proofs.gain.Gain.of.Goals as goal
 
-pub overflow-mul-result : goal.overflow-mul-result
-overflow-mul-result c =
+pub overflow_mul-result : goal.overflow_mul-result
+overflow_mul-result c =
     let s = c.args.self.small in
     product_fits (to_z w64 (of_z w64 c.units.result)) (to_z w64 (of_z w64 c.args.self.cents)) (2 ^ 34) 400000000 (omega (arith, ints)) (omega (arith, ints)) (omega arith)
 

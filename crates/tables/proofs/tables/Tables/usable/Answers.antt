@@ -5,11 +5,11 @@ use Rattle.ledger.specs.Judge as judging
 use Rattle.tables.proofs.Families.{family_of_lem}
 use Rattle.tables.proofs.tables.Tables.usable.Goals as goal
 
-pub returns-in-err-family : goal.returns-in-err-family
+pub returns-in_err-family : goal.returns-in_err-family
 unfolding judging.need
-returns-in-err-family c =
+returns-in_err-family c =
     let p = err_from_is_err_and c.from-residual.result c.from-residual.ensures.1 in
-    let h = c.in-err-family.ensures in
+    let h = c.in_err-family.ensures in
     rw (p.1, p.2) (search rules)
 
 pub returns-then-not-book-accepts : goal.returns-then-not-book-accepts
@@ -27,5 +27,5 @@ returns-then-not-book-accepts-3 c = search rules
 pub returns : goal.returns
 unfolding judging.need
 returns c =
-    let h = c.in-ok-family.ensures in
-    (search rules, ap family_of (sym h.1) ∙ family_of_lem c.in-ok-family.family)
+    let h = c.in_ok-family.ensures in
+    (search rules, ap family_of (sym h.1) ∙ family_of_lem c.in_ok-family.family)

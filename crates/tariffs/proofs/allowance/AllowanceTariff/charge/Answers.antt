@@ -10,6 +10,6 @@ returns-in-Trade g c =
     record {
       standing =
           (λ i. record { reduced = n.reduced i; entries = n.entries i; lower = n.lower i })
-          ∙ trade_after (g.L.Tariff.after t.lower) t s (sym c.if-not-in-range.ensures) c.in-Trade.is;
+          ∙ trade_after (g.L.Tariff.after t.lower) t s (sym c.if-not-in_range.ensures) c.in-Trade.is;
       one = takes_one t.entries _ s.account s.count n.entries;
     }

@@ -1,5 +1,6 @@
 //! The rule book: what each of the nine calls does, the ledger of a list of calls, and the law that ties the two.
 #![tactic(auto)]
+
 mod laws;
 mod rows;
 

@@ -1,10 +1,10 @@
 -- What holds of every register.
-use Rattle.std.proofs.Common.{◌≡◌, ℕ, suc, ◌<◌, ◌≤◌, min, List, [], ◌∷◌, length, get_or, vec_len, sym, ◌∙◌, arith}
+use Rattle.std.proofs.Common.{◌≡◌, ℕ, suc, ◌<◌, ◌≤◌, List, [], ◌∷◌, length, get_or, vec_len, sym, ◌∙◌, arith}
 use Rattle.std.specs.List.{zip}
 use Rattle.std.proofs.lemmas.Slice.Zip.{length-zip, firsts-zip, seconds-zip}
 use Rattle.registers.specs.declared.keyed.Register.{Register}
 use Rattle.registers.specs.Keys.{Ascending}
-use Rattle.registers.specs.Rows.{Rows, Rising, keys_in, contents_in}
+use Rattle.registers.specs.Rows.{Rising, keys_in, contents_in}
 use Rattle.registers.specs.Held.{keys_of, contents_of, rows_of, room_of}
 
 pub level : {X : Type 0} (r : Register X) → length (contents_of r) ≡ length (keys_of r)

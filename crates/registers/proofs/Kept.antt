@@ -1,5 +1,5 @@
 -- A register's rows, from what is found among its keys.
-use Rattle.std.proofs.Common.{◌≡◌, ℕ, suc, ◌+◌, ◌<◌, ◌≤◌, Bool, true, ◌||◌, ltb, List, ◌++◌, length, get_or, take, drop, set, is_some, Some, None, Ok, Err, Option, Result, sym, ap, ◌∙◌, ap₂, arith, MatchResult}
+use Rattle.std.proofs.Common.{◌≡◌, ℕ, Bool, true, ◌||◌, ltb, List, length, get_or, set, is_some, Some, None, Ok, Err, Option, Result, sym, ap, ◌∙◌, ap₂, arith, MatchResult}
 use Rattle.std.specs.List.{insert, remove, zip, slice_get}
 use Rattle.registers.specs.Keys.{Found}
 use Rattle.registers.specs.Rows.{lookup, put, without, below, place_for, contents_in}
@@ -37,13 +37,9 @@ module _ {X : Type 0} (r : Register X) (k i : ℕ) where
   unfolding rows_of
   inserts s x f e h = ap₂ zip e h ∙ put_missing k (keys_of r) (contents_of r) i x f.1 (level r) f.0 (λ l. f.2 i (omega arith) l)
 
-  -- the elements but that at i
-  but : {Y : Type 0} (ys : List Y) → take i ys ++ drop (i + 1) ys ≡ remove ys i
-  but ys = let e : i + 1 ≡ suc i = omega arith in ap (λ (n : ℕ). take i ys ++ drop n ys) e
-
-  pub removes : (s : Register X) → Found (keys_of r) k (Ok i) → keys_of s ≡ take i (keys_of r) ++ drop (i + 1) (keys_of r) → contents_of s ≡ take i (contents_of r) ++ drop (i + 1) (contents_of r) → rows_of s ≡ without k (rows_of r)
+  pub removes : (s : Register X) → Found (keys_of r) k (Ok i) → keys_of s ≡ remove (keys_of r) i → contents_of s ≡ remove (contents_of r) i → rows_of s ≡ without k (rows_of r)
   unfolding rows_of
-  removes s f e h = ap₂ zip (e ∙ but (keys_of r)) (h ∙ but (contents_of r)) ∙ without_found k (keys_of r) (contents_of r) i (before_found (keys_of r) k i r.ascends f) (level r) f.0 f.1
+  removes s f e h = ap₂ zip e h ∙ without_found k (keys_of r) (contents_of r) i (before_found (keys_of r) k i r.ascends f) (level r) f.0 f.1
 
   pub stays : Found (keys_of r) k (Err i) → rows_of r ≡ without k (rows_of r)
   unfolding rows_of

@@ -6,7 +6,6 @@ mod Lent
 mod Order
 mod Places
 mod Same
-mod Shifts
 mod Spans
 pub mod Stretches
 pub mod Sums

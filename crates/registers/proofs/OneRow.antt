@@ -1,10 +1,9 @@
 -- Laws of one row put in or taken out: what a look-up finds, and that order is kept.
-use Rattle.std.proofs.Common.{◌≡◌, ℕ, zero, suc, ◌+◌, ◌<◌, ◌≤◌, Bool, true, false, cond, eqb, ltb, List, [], ◌∷◌, length, get_or, Some, None, sym, refl, ap, ◌∙◌, ⊎_elim, arith}
+use Rattle.std.proofs.Common.{◌≡◌, ℕ, zero, suc, ◌<◌, ◌≤◌, Bool, true, false, cond, eqb, ltb, [], ◌∷◌, length, get_or, Some, None, refl, ap, arith}
 use Rattle.std.specs.List.{slice_get}
 use Rattle.std.proofs.lemmas.Bool.Decides.{nat_tests}
 use Rattle.std.proofs.lemmas.Bool.{lt-ltb, le-ltb, eq-eqb, ne_eqb}
 use Rattle.registers.specs.Rows.{Rows, Rising, lookup, put, without, keys_in, contents_in}
-use Rattle.registers.specs.Laws.{OrderLaws}
 
 pub rising_down : {V : Type 0} (lo hi : ℕ) (rs : Rows V) → lo ≤ hi → Rising hi rs → Rising lo rs
 rising_down lo hi [] h o = tt

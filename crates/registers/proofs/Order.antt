@@ -1,8 +1,8 @@
 -- Keys in order: what an insertion or a removal leaves in order.
-use Rattle.std.proofs.Common.{◌≡◌, ℕ, zero, suc, ◌+◌, ◌-◌, ◌<◌, ◌≤◌, ◌⊎◌, List, [], ◌∷◌, ◌++◌, length, get_or, take, drop, set, Ok, Err, sym, refl, ap, ◌∙◌, subst, inl, inr, ⊎_elim, arith}
-use Rattle.std.specs.List.{between, insert}
-use Rattle.std.proofs.lemmas.Bool.{cases_order}
-use Rattle.std.proofs.lemmas.List.Edits.{length-insert, get_or-insert_below, get_or-insert_at, get_or-insert_above}
+use Rattle.std.proofs.Common.{◌≡◌, ℕ, ◌+◌, ◌-◌, ◌<◌, ◌≤◌, List, length, get_or, Ok, Err, ap, ◌∙◌, ⊎_elim, arith}
+use Rattle.std.specs.List.{insert, remove}
+use Rattle.std.proofs.lemmas.Bool.{cases_lt, cases_order}
+use Rattle.std.proofs.lemmas.List.Edits.{length-insert, get_or-insert_below, get_or-insert_at, get_or-insert_above, length-remove, get_or-remove_below, get_or-remove_above}
 use Rattle.registers.specs.Keys.{Ascending, Found, Before}
 
 -- one key of the longer list, by its place
@@ -34,6 +34,18 @@ ascending_inserted ks i key a f m n h l =
     omega (arith, b, p, a (m - 1) (n - 1) (omega arith) (omega arith))))
     (cases_order m i)))
     (cases_order n i)
+
+pub ascending_removed : (ks : List ℕ) (i : ℕ) → Ascending ks → i < length ks → Ascending (remove ks i)
+ascending_removed ks i a l m n h k =
+    let len = length-remove ks i l in
+    ⊎_elim
+    (λ lt. omega (arith, get_or-remove_below ks i 0 n lt l, get_or-remove_below ks i 0 m (omega arith) l, a m n h (omega arith)))
+    (λ ge. let b = get_or-remove_above ks i 0 n ge l in
+    ⊎_elim
+    (λ lt. omega (arith, b, get_or-remove_below ks i 0 m lt l, a m (n + 1) (omega arith) (omega arith)))
+    (λ le. omega (arith, b, get_or-remove_above ks i 0 m le l, a (m + 1) (n + 1) (omega arith) (omega arith)))
+    (cases_lt m i))
+    (cases_lt n i)
 
 pub before_found : (ks : List ℕ) (key i : ℕ) → Ascending ks → Found ks key (Ok i) → Before ks key i
 before_found ks key i a f m h = omega (arith, a m i h f.0, f.1)

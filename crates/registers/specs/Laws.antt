@@ -1,5 +1,5 @@
 -- What the crates above lean on, for rows of any content.
-use Rattle.std.specs.Prelude.{◌≡◌, ℕ, ◌+◌, ◌<◌, ◌≤◌, Bool, false, cond, not, ◌&&◌, List, ◌++◌, length, ℤ, ◌+ℤ◌, Some, None, filter, ◌≢◌, nat_le, nat_lt, slice_index}
+use Rattle.std.specs.Prelude.{◌≡◌, ℕ, ◌+◌, ◌<◌, Bool, false, cond, not, ◌&&◌, List, ◌++◌, length, ℤ, ◌+ℤ◌, Some, None, filter, ◌≢◌, nat_le, nat_lt, slice_index}
 use Rattle.std.specs.List.{zip, slice_get}
 use Rattle.registers.specs.Rows.{Rows, Rising, keys_in, contents_in, lookup, put, without}
 use Rattle.registers.specs.Stretches.{front, stretch, rest, rewritten}

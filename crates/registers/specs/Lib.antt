@@ -4,4 +4,3 @@ pub mod Stretches
 pub mod Sums
 pub mod Held
 pub mod Laws
-pub mod Moves

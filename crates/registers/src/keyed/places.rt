@@ -1,12 +1,12 @@
 // Rows by their places.
-ghost use Rattle.std.specs.Prelude.{◌≡◌, ◌+◌, ◌<◌, ◌≤◌, ◌++◌, length, take, drop, Some, None, Ok, Err, MatchResult, slice_index, slice_index_or, slice_set};
-ghost use Rattle.std.specs.List.{insert, slice_get};
+ghost use Rattle.std.specs.Prelude.{◌≡◌, ◌<◌, ◌≤◌, ◌++◌, length, take, drop, Some, None, Ok, Err, MatchResult, slice_index, slice_index_or, slice_set};
+ghost use Rattle.std.specs.List.{insert, remove, slice_get};
 ghost use Rattle.registers.specs.Keys.{Found};
 ghost use Rattle.registers.specs.Rows.{below, keys_in, contents_in, lookup};
 ghost use Rattle.registers.specs.Held.{keys_of, contents_of, rows_of, room_of};
 
 use super::Register;
-use crate::moves::{cut, insert};
+use crate::cut::cut;
 use crate::seek::seek;
 
 impl<T: Drop> Register<T> {
@@ -52,9 +52,7 @@ impl<T: Drop> Register<T> {
     {
         self.contents[i] = content;
     }
-}
 
-impl<T: Copy + Drop> Register<T> {
     pub(super) fn insert_at(&mut self, i: usize, key: u64, content: T)
         requires place { Found (keys_of self.old) key (Err i) }
         requires space { length (rows_of self.old) < room_of self.old }
@@ -62,21 +60,19 @@ impl<T: Copy + Drop> Register<T> {
         ensures contents { contents_of self.new ≡ insert (contents_of self.old) i content }
         ensures room { room_of self.new ≡ room_of self.old }
     {
-        insert(&mut self.keys, i, key);
-        insert(&mut self.contents, i, content);
+        let _ = self.keys.insert(i, key);
+        let _ = self.contents.insert(i, content);
     }
 
     pub(super) fn remove_at(&mut self, i: usize) -> T
         requires { i < length (keys_of self.old) }
         ensures value { result ≡ slice_index_or (contents_of self.old) i result }
-        ensures keys { keys_of self.new ≡ take i (keys_of self.old) ++ drop (i + 1) (keys_of self.old) }
-        ensures contents { contents_of self.new ≡ take i (contents_of self.old) ++ drop (i + 1) (contents_of self.old) }
+        ensures keys { keys_of self.new ≡ remove (keys_of self.old) i }
+        ensures contents { contents_of self.new ≡ remove (contents_of self.old) i }
         ensures room { room_of self.new ≡ room_of self.old }
     {
-        let content = self.contents[i];
-        cut(&mut self.keys, i, i + 1);
-        cut(&mut self.contents, i, i + 1);
-        content
+        self.keys.remove(i);
+        self.contents.remove(i)
     }
 
     // Takes the rows from the place `from` to the place `to` out.

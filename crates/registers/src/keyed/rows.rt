@@ -34,9 +34,7 @@ impl<T: Drop> Register<T> {
     {
         self.len() < self.room
     }
-}
 
-impl<T: Copy + Drop> Register<T> {
     /// Puts the content under the key, in place of what stands there. Where there is no place for one more row, it is
     /// given back, and nothing changes.
     pub fn put(&mut self, key: u64, content: T) -> Result<(), T>
@@ -70,7 +68,9 @@ impl<T: Copy + Drop> Register<T> {
             Err(_) => return None,
         }
     }
+}
 
+impl<T: Copy + Drop> Register<T> {
     /// What stands under the key.
     pub fn read(&self, key: u64) -> Option<T>
         ensures { result ≡ lookup (rows_of self.now) key }

@@ -85,6 +85,17 @@ impl<T: Drop> Register<T> {
         self.contents.as_mut_slice()
     }
 
+    /// Takes the rows whose keys lie from `a` to below `b` out, in one move, and answers how many they were.
+    pub fn take_stretch(&mut self, a: u64, b: u64) -> usize
+        ensures answer { result ≡ length (stretch a b (rows_of self.old)) }
+        ensures rows { rows_of self.new ≡ front a (rows_of self.old) ++ rest a b (rows_of self.old) }
+        ensures room { room_of self.new ≡ room_of self.old }
+    {
+        let Span { from, to } = self.stretch(a, b);
+        self.cut_rows(from, to);
+        to - from
+    }
+
     /// The key at the place.
     pub fn key_at(&self, place: usize) -> Option<u64>
         ensures { result ≡ slice_get (keys_in (rows_of self.now)) place }
@@ -105,18 +116,5 @@ impl<T: Drop> Register<T> {
         } else {
             None
         }
-    }
-}
-
-impl<T: Copy + Drop> Register<T> {
-    /// Takes the rows whose keys lie from `a` to below `b` out, in one move, and answers how many they were.
-    pub fn take_stretch(&mut self, a: u64, b: u64) -> usize
-        ensures answer { result ≡ length (stretch a b (rows_of self.old)) }
-        ensures rows { rows_of self.new ≡ front a (rows_of self.old) ++ rest a b (rows_of self.old) }
-        ensures room { room_of self.new ≡ room_of self.old }
-    {
-        let Span { from, to } = self.stretch(a, b);
-        self.cut_rows(from, to);
-        to - from
     }
 }

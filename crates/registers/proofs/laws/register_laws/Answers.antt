@@ -1,5 +1,5 @@
 use Rattle.std.proofs.Common.{refl, arith}
-use Rattle.registers.specs.Laws.{PutLaws, TakeLaws, OrderLaws, StretchLaws, RewriteLaws}
+use Rattle.registers.specs.Laws.{PutLaws, TakeLaws, StretchLaws, RewriteLaws}
 use Rattle.registers.proofs.OneRow.{lookup-put_same, lookup-put_other, rising_put, lookup-without_same, lookup-without_other, without_absent, rising_without, once, lookup_at}
 use Rattle.registers.proofs.Sums.{total-put, total-without, total_ℤ-put, total_ℤ-without, length-put, length_without}
 use Rattle.registers.proofs.Stretches.{parts, kept, lookup-others, rising_others, length-others, total-others, total_ℤ-others, keys_rewritten, lookup-rewritten, total-rewritten, total_ℤ-rewritten}

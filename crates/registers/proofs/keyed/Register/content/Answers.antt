@@ -1,4 +1,4 @@
-use Rattle.std.proofs.Common.{◌≡◌, List, length, sym, refl, ap, ◌∙◌}
+use Rattle.std.proofs.Common.{List, length, sym, refl, ap, ◌∙◌}
 use Rattle.std.specs.List.{slice_get}
 use Rattle.std.proofs.lemmas.Option.{slice_get_read}
 use Rattle.registers.specs.Held.{contents_of}

@@ -1,4 +1,4 @@
-use Rattle.std.proofs.Common.{◌≡◌, ◌≤◌, length, sym, refl, ◌∙◌, subst, ap₂, arith}
+use Rattle.std.proofs.Common.{◌≤◌, length, sym, refl, ◌∙◌, subst, ap₂, arith}
 use Rattle.std.specs.List.{zip}
 use Rattle.registers.specs.Keys.{Ascending}
 use Rattle.registers.specs.Held.{keys_of, contents_of, rows_of}
@@ -12,8 +12,8 @@ cut-requires g c = let p = c.requires in let n = count c.args.self.now in record
 pub cut-requires-2 : goal.cut-requires-2
 cut-requires-2 g c = let p = c.requires in let n = count c.args.self.now in let e = c.args.self.now.even in record { forward = p.forward; within = omega arith }
 
-pub invariant-of-self : goal.invariant-of-self
-invariant-of-self g c =
+pub invariant_of-self : goal.invariant_of-self
+invariant_of-self g c =
     let r = c.args.self.now in
     let p = c.requires in
     let f = r.fits in
@@ -23,7 +23,7 @@ invariant-of-self g c =
     let y = c.cut-2.ensures.len in
     let z = c.cut.ensures.room in
     let w = c.cut-2.ensures.room in
-    (omega arith, ((omega arith, omega arith, omega arith), (subst Ascending (sym c.cut.ensures.items) (ascending_cut (keys_of r) c.args.from c.args.to r.ascends p.forward k), tt)))
+    record { even = omega arith; fits = (omega arith, omega arith, omega arith); ascends = subst Ascending (sym c.cut.ensures.items) (ascending_cut (keys_of r) c.args.from c.args.to r.ascends p.forward k) }
 
 pub returns : goal.returns
 unfolding rows_of

@@ -5,7 +5,7 @@ use Rattle.registers.proofs.keyed.Register.keys.Goals as goal
 pub returns : goal.returns
 returns g c =
     let r = c.args.self.now in
-    let s = c.as-slice.ensures in
+    let s = c.as_slice.ensures in
     let l = s.len in
     let f = r.fits in
     record { value = s.value ∙ keys_are r; len = l ∙ sym (count r); bound = omega arith; order = rising r }

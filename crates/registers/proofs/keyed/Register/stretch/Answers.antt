@@ -1,4 +1,4 @@
-use Rattle.std.proofs.Common.{◌≡◌, ℕ, ◌+◌, length, sym, ap, ◌∙◌, arith}
+use Rattle.std.proofs.Common.{◌≡◌, ℕ, sym, ap, ◌∙◌, arith}
 use Rattle.registers.specs.Stretches.{stretch, StretchAt}
 use Rattle.registers.specs.Rows.{contents_in}
 use Rattle.registers.specs.Held.{rows_of}
@@ -17,10 +17,10 @@ returns-then-b-a g c =
     let rs = rows_of c.args.self.now in
     let a = c.args.a in
     let b = c.args.b in
-    let from = c.lower-bound-from.result in
+    let from = c.lower_bound-from.result in
     let x = length-stretch a b rs in
     let y = onwards_none a b rs c.if-b-a.true in
-    let p : StretchAt a b rs from from = record { first = c.lower-bound-from.ensures ∙ sym (length_front a rs); last = omega arith } in
+    let p : StretchAt a b rs from from = record { first = c.lower_bound-from.ensures ∙ sym (length_front a rs); last = omega arith } in
     let h = ends a b rs from from p in
     record { places = p; left = left a b rs from from p; held = held c.args.self.now a b from from p; forward = h.0; within = h.1 }
 
@@ -29,11 +29,11 @@ returns g c =
     let rs = rows_of c.args.self.now in
     let a = c.args.a in
     let b = c.args.b in
-    let from = c.lower-bound-from.result in
-    let to = c.lower-bound.result in
+    let from = c.lower_bound-from.result in
+    let to = c.lower_bound.result in
     let l = c.if-b-a.false in
     let x = length-stretch a b rs in
     let y = below_onwards a b rs (omega arith) in
-    let p : StretchAt a b rs from to = record { first = c.lower-bound-from.ensures ∙ sym (length_front a rs); last = omega arith } in
+    let p : StretchAt a b rs from to = record { first = c.lower_bound-from.ensures ∙ sym (length_front a rs); last = omega arith } in
     let h = ends a b rs from to p in
     record { places = p; left = left a b rs from to p; held = held c.args.self.now a b from to p; forward = h.0; within = h.1 }

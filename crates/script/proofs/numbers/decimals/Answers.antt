@@ -1,4 +1,4 @@
-use Rattle.std.proofs.Common.{◌≡◌, ◌<◌, length, get_or, arith}
+use Rattle.std.proofs.Common.{◌≡◌, length, arith}
 use Rattle.script.proofs.Values.{one_decimal, two_decimals}
 use Rattle.script.proofs.numbers.decimals.Goals as goal
 

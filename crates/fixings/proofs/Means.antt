@@ -1,5 +1,5 @@
 -- The mean as a quotient, and what it means.
-use Rattle.std.proofs.Common.{◌≡◌, ℕ, ◌+◌, ◌*◌, ◌/◌, ◌%◌, ◌<◌, ◌≤◌, ◌⊎◌, List, [], ◌∷◌, ◌++◌, length, sum, sym, ap, ◌∙◌, subst, inl, inr, mul_assoc, mul_comm, div-lt_iff_lt-mul, div-add-mod', le-div_iff_mul-le, div-mul-le_self, le_of_mul-le-mul_right, arith}
+use Rattle.std.proofs.Common.{◌≡◌, ℕ, ◌+◌, ◌*◌, ◌/◌, ◌<◌, ◌≤◌, ◌⊎◌, List, [], ◌∷◌, ◌++◌, length, sum, sym, ap, ◌∙◌, subst, inl, inr, mul_assoc, mul_comm, div-lt_iff_lt-mul, div-add-mod', le-div_iff_mul-le, div-mul-le_self, le_of_mul-le-mul_right, arith}
 use native.Mathlib.Nat.{mul-mod_left, lt-div-mul-add}
 use Rattle.std.proofs.lemmas.List.{length_push}
 use Rattle.std.proofs.lemmas.List.Sums.{sum_by_push}

@@ -1,5 +1,6 @@
 //! The fixing of the last trading day: samples of an index are taken, and from them and the close the final price is made.
 #![tactic(auto)]
+
 mod closed;
 mod figures;
 mod mean;

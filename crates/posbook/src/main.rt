@@ -1,5 +1,6 @@
 //! Reads a script, a command a line, calls the library and prints one answer line for each command.
 #![tactic(auto)]
+
 mod command;
 mod refusals;
 mod session;

@@ -1,9 +1,9 @@
 -- What is written of a price reads as that price.
-use Rattle.std.proofs.Common.{◌≡◌, ℕ, ◌+◌, ◌*◌, ◌/◌, ◌%◌, ◌^◌, ◌<◌, List, [], ◌∷◌, ◌++◌, length, Ok, decimal, fold, sym, refl, ap, ◌∙◌, subst, inr, arith, rules}
+use Rattle.std.proofs.Common.{◌≡◌, ℕ, ◌+◌, ◌*◌, ◌/◌, ◌%◌, ◌^◌, ◌<◌, [], ◌∷◌, ◌++◌, length, Ok, decimal, fold, sym, refl, ap, ◌∙◌, subst, inr, arith, rules}
 use Rattle.std.proofs.lemmas.Str.Parse.{IsNumeralModel, numerals_by_fold, tells_by_index}
 use Rattle.std.proofs.lemmas.Fmt.{decimal_digit, decimal_nonempty, digits_decimal, digits_value-decimal}
 use Rattle.script.specs.Digits.{AllDigits, Numeral, further, value}
-use Rattle.script.specs.Numbers.{Decimal, after_point, Writes, Hundredths}
+use Rattle.script.specs.Numbers.{after_point, Hundredths}
 use Rattle.script.specs.Points.{points_text}
 
 own : IsNumeralModel AllDigits value

@@ -1,11 +1,11 @@
 -- A text with a point in it: where its first point stands tells its form.
-use Rattle.std.proofs.Common.{◌≡◌, ℕ, suc, ◌+◌, ◌*◌, ◌^◌, ◌<◌, ◌≤◌, ◌⊎◌, List, [], ◌∷◌, ◌++◌, length, get_or, take, drop, Ok, Err, Result, sym, refl, ap, ◌∙◌, subst, inl, inr, arith}
+use Rattle.std.proofs.Common.{◌≡◌, ℕ, suc, ◌+◌, ◌*◌, ◌<◌, ◌≤◌, List, ◌∷◌, ◌++◌, length, get_or, take, drop, Ok, Err, Result, sym, refl, ap, ◌∙◌, subst, inl, inr, arith}
 use Rattle.std.proofs.lemmas.List.{take-append-drop, drop_more, take_at, get_or_at, get_or_append_left, length-append, take_all, append_cancel_left}
 use Rattle.std.proofs.lemmas.Bool.{cases_lt, cases_order}
 use Rattle.script.specs.declared.numbers.Misread.{Misread}
 use Rattle.script.specs.declared.numbers.Misread.TheVariants.{NotANumber, TooFine, TooLarge}
 use Rattle.script.specs.Digits.{Numeral, value}
-use Rattle.script.specs.Numbers.{Fitting, Decimal, after_point, Formless, OverFine, Hundredths}
+use Rattle.script.specs.Numbers.{Fitting, Decimal, after_point, Formless, Hundredths}
 
 -- d is the place of the first point of w, or w's length
 pub record First (w : List ℕ) (d : ℕ) : Type 0 where

@@ -3,7 +3,7 @@ use Rattle.std.proofs.Common.{◌≡◌, ℕ, ◌<◌, ◌≤◌, List, sym, inl
 use Rattle.std.proofs.lemmas.Bool.{cases_order, both_ways}
 use Rattle.script.specs.declared.words.Span.{Span}
 use Rattle.script.specs.Only.{Only}
-use Rattle.script.specs.Words.{blank, WordAt, LineEnd}
+use Rattle.script.specs.Words.{WordAt, LineEnd}
 
 -- no word starts before another does
 starts : (line : List ℕ) (from : ℕ) (s t : Span) → WordAt line from s → WordAt line from t → s.start < t.start → ⊥

@@ -1,5 +1,6 @@
 //! Reading a script of commands: its lines, their words, and the numbers among them, all as bytes.
 #![tactic(auto)]
+
 mod digits;
 mod numbers;
 mod points;

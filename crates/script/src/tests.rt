@@ -41,6 +41,9 @@ fn words_are_found(rt: HostRuntime) -> Result<(), Fail> {
     word(&rt, b"buy \t9\r", 3, 5, 6);
     word(&rt, b"buy \t9\r", 6, 7, 7);
     word(&rt, b"buy", 9, 3, 3);
-    assert_eq!(rt; Points(5).to_string(rt.alloc())?.as_bytes(), b"0.05");
+    assert_eq!(rt;
+        Points(5).to_string(rt.alloc())?.as_bytes(),
+        b"0.05".as_slice()
+    );
     Ok(())
 }

@@ -1,4 +1,4 @@
-use Rattle.std.proofs.Common.{◌≡◌, ◌<◌, ◌≤◌, [], ◌∷◌, ◌++◌, length, get_or, take, sym, ap, ◌∙◌, arith, rules, below_more}
+use Rattle.std.proofs.Common.{◌<◌, ◌≤◌, [], ◌∷◌, ◌++◌, length, get_or, sym, ap, ◌∙◌, arith, below_more}
 use Rattle.std.proofs.lemmas.List.{take_more, take_all}
 use Rattle.terms.specs.Ranges.{PriceRange}
 use Rattle.fixings.proofs.whole.take_all.Goals as goal
@@ -9,7 +9,7 @@ loop-price-preserved c =
     let xs = c.args.samples.now in
     let h : i < length xs = c.loop-price-test.true in
     let was = c.loop-price.invariant in
-    let s = c.in-default.ensures in (
+    let s = c.in_default.ensures in (
       s.keeps_family ∙ was.0,
       s.keeps_expected ∙ was.1,
       s.adds ∙ ap (λ ys. ys ++ get_or xs i 0 ∷ []) was.2 ∙ sym (take_more xs i 0 h),

@@ -5,5 +5,5 @@ use Rattle.std.proofs.lemmas.Bool.Decides.{Decides-eqb}
 
 pub returns : goal.returns
 returns c =
-    subst (λ (ys : List ℕ). Decides c.eq.result (c.args.word.now ≡ ys)) c.as-bytes.ensures.value
-    (slice_eq-Decides Decides-eqb c.args.word.now c.as-bytes.result.now c.eq.result c.eq.ensures)
+    subst (λ (ys : List ℕ). Decides c.eq.result (c.args.word.now ≡ ys)) c.as_bytes.ensures.value
+    (slice_eq-Decides Decides-eqb c.args.word.now c.as_bytes.result.now c.eq.result c.eq.ensures)

@@ -6,13 +6,13 @@ pub returns : goal.returns
 returns c =
     let one = c.in-Some.ensures in
     let two = c.in-Some-next.ensures in
-    let end = c.in-default-next-2.ensures in
+    let end = c.in_default-next-2.ensures in
     let a = c.next.new.self.at in
     let b = c.next-2.new.self.at in
     let e = c.next-3.new.self.at in
     strikes_behind c.args.words.line.now c.args.words.at a b e
-    c.in-Some.first.now c.in-Some-next.second.now c.in-ok-family.family c.in-ok-level.level
+    c.in-Some.first.now c.in-Some-next.second.now c.in_ok-family.family c.in_ok-level.level
     one.word
     (at_line (Some c.in-Some-next.second.now) a b (ap (λ r. r.now) one.same) two.word)
     (at_line None b e (ap (λ r. r.now) (two.same ∙ one.same)) end.word)
-    c.in-ok-family.ensures c.in-ok-level.ensures
+    c.in_ok-family.ensures c.in_ok-level.ensures

@@ -1,9 +1,9 @@
-use Rattle.std.proofs.Common.{◌≡◌, ◌<◌, length, get_or, arith}
+use Rattle.std.proofs.Common.{◌≡◌, length, arith}
 use Rattle.script.proofs.Values.{one_decimal, two_decimals}
 use Rattle.script.proofs.numbers.decimals.Goals as goal
 
-pub returns-then-part-lt-MOST-DECIMALS : goal.returns-then-part-lt-MOST-DECIMALS
-returns-then-part-lt-MOST-DECIMALS c =
+pub returns-then-part-lt-MOST_DECIMALS : goal.returns-then-part-lt-MOST_DECIMALS
+returns-then-part-lt-MOST_DECIMALS c =
     let w = c.args.part.now in
     let one : length w ≡ 1 = omega arith in
     let is = one_decimal w one in

@@ -11,57 +11,57 @@ use Rattle.script.proofs.numbers.hundredths.Goals as goal
 front : (w : List ℕ) (n : ℕ) → take (n - 0) w ≡ take n w
 front w n = let e : n - 0 ≡ n = omega arith in ap (λ k. take k w) e
 
-pub returns-then-not-is-numeral : goal.returns-then-not-is-numeral
-returns-then-not-is-numeral c =
+pub returns-then-not-is_numeral : goal.returns-then-not-is_numeral
+returns-then-not-is_numeral c =
     let w = c.args.word.now in
-    let i = c.point-place-point.result in
-    let point = c.point-place-point.ensures in
+    let i = c.point_place-point.result in
+    let point = c.point_place-point.ensures in
     let at : First w i = record { within = point.within; before = point.before; found = point.found } in
     only_reading w (Err NotANumber)
-    (formless_front w (take (i - 0) w) i at (front w i) c.if-not-is-numeral.ensures)
+    (formless_front w (take (i - 0) w) i at (front w i) c.if-not-is_numeral.ensures)
 
 pub returns-then-point-word : goal.returns-then-point-word
 returns-then-point-word c =
     let w = c.args.word.now in
-    let r = c.in-hundredths.result in
-    let same : take (c.point-place-point.result - 0) w ≡ w = take_all (c.point-place-point.result - 0) w (omega arith) in
+    let r = c.in_hundredths.result in
+    let same : take (c.point_place-point.result - 0) w ≡ w = take_all (c.point_place-point.result - 0) w (omega arith) in
     only_reading w r
     (whole_points w r
-    (subst Numeral same c.if-not-is-numeral.ensures)
-    (subst (λ t. Fitting (100 * value t + 0) r) same c.in-hundredths.ensures))
+    (subst Numeral same c.if-not-is_numeral.ensures)
+    (subst (λ t. Fitting (100 * value t + 0) r) same c.in_hundredths.ensures))
 
-pub returns-then-not-is-numeral-2 : goal.returns-then-not-is-numeral-2
-returns-then-not-is-numeral-2 c =
+pub returns-then-not-is_numeral-2 : goal.returns-then-not-is_numeral-2
+returns-then-not-is_numeral-2 c =
     let w = c.args.word.now in
-    let i = c.point-place-point.result in
-    let point = c.point-place-point.ensures in
+    let i = c.point_place-point.result in
+    let point = c.point_place-point.ensures in
     let at : First w i = record { within = point.within; before = point.before; found = point.found } in
     let b = take (length w - (i + 1)) (drop (i + 1) w) in
     only_reading w (Err NotANumber)
-    (formless_back w b i at (omega arith) (take_rest w (i + 1)) c.if-not-is-numeral-2.ensures)
+    (formless_back w b i at (omega arith) (take_rest w (i + 1)) c.if-not-is_numeral-2.ensures)
 
-pub returns-then-part-gt-MOST-DECIMALS : goal.returns-then-part-gt-MOST-DECIMALS
-returns-then-part-gt-MOST-DECIMALS c =
+pub returns-then-part-gt-MOST_DECIMALS : goal.returns-then-part-gt-MOST_DECIMALS
+returns-then-part-gt-MOST_DECIMALS c =
     let w = c.args.word.now in
-    let i = c.point-place-point.result in
-    let point = c.point-place-point.ensures in
+    let i = c.point_place-point.result in
+    let point = c.point_place-point.ensures in
     let at : First w i = record { within = point.within; before = point.before; found = point.found } in
     let a = take (i - 0) w in
     let b = take (length w - (i + 1)) (drop (i + 1) w) in
-    let form = decimal_at w a b i at (omega arith) (front w i) (take_rest w (i + 1)) c.if-not-is-numeral.ensures c.if-not-is-numeral-2.ensures in
+    let form = decimal_at w a b i at (omega arith) (front w i) (take_rest w (i + 1)) c.if-not-is_numeral.ensures c.if-not-is_numeral-2.ensures in
     only_reading w (Err TooFine)
-    (record { whole = a; part = b; form = form; long = c.if-part-gt-MOST-DECIMALS.true })
+    (record { whole = a; part = b; form = form; long = c.if-part-gt-MOST_DECIMALS.true })
 
 pub returns : goal.returns
 returns c =
     let w = c.args.word.now in
-    let i = c.point-place-point.result in
-    let point = c.point-place-point.ensures in
+    let i = c.point_place-point.result in
+    let point = c.point_place-point.ensures in
     let at : First w i = record { within = point.within; before = point.before; found = point.found } in
     let a = take (i - 0) w in
     let b = take (length w - (i + 1)) (drop (i + 1) w) in
-    let r = c.in-hundredths-2.result in
-    let form = decimal_at w a b i at (omega arith) (front w i) (take_rest w (i + 1)) c.if-not-is-numeral.ensures c.if-not-is-numeral-2.ensures in
+    let r = c.in_hundredths-2.result in
+    let form = decimal_at w a b i at (omega arith) (front w i) (take_rest w (i + 1)) c.if-not-is_numeral.ensures c.if-not-is_numeral-2.ensures in
     only_reading w r
-    (fine_points w a b r form c.if-part-gt-MOST-DECIMALS.false
-    (subst (λ x. Fitting (100 * value a + x) r) c.decimals.ensures.worth c.in-hundredths-2.ensures))
+    (fine_points w a b r form c.if-part-gt-MOST_DECIMALS.false
+    (subst (λ x. Fitting (100 * value a + x) r) c.decimals.ensures.worth c.in_hundredths-2.ensures))

@@ -12,8 +12,8 @@ returns c =
     let n = c.args.p.0 in
     let small : n < 2 ^ 32 = omega arith in
     record {
-      text = c.to-string.ensures.ok;
-      back = IfOk-weaker c.to-string.result (λ s. string_bytes s ≡ points_text n) (λ s. Only (Hundredths (string_bytes s)) (Ok n))
+      text = c.to_string.ensures.ok;
+      back = IfOk-weaker c.to_string.result (λ s. string_bytes s ≡ points_text n) (λ s. Only (Hundredths (string_bytes s)) (Ok n))
           (λ s e. subst (λ w. Only (Hundredths w) (Ok n)) (sym e) (only_reading (points_text n) (Ok n) (reads_points n small)))
-          c.to-string.ensures.ok;
+          c.to_string.ensures.ok;
     }

@@ -5,5 +5,5 @@ use Rattle.script.proofs.words.word_at.Goals as goal
 pub returns : goal.returns
 returns c =
     only_word c.args.line.now c.args.from
-    (record { start = c.past-blanks-start.result; end = c.past-word-end.result })
+    (record { start = c.past_blanks-start.result; end = c.past_word-end.result })
     (search rules)

@@ -2,8 +2,8 @@ use Rattle.std.proofs.Common.{◌-◌, arith}
 use Rattle.std.proofs.lemmas.List.{length-take, get_or-take}
 use Rattle.fixings.proofs.open.OpenFixing.close.Goals as goal
 
-pub final-price-price-requires : goal.final-price-price-requires
-final-price-price-requires c =
+pub final_price-price-requires : goal.final_price-price-requires
+final_price-price-requires c =
     let o = c.args.self in
     let n = length-take (o.count - 0) o.samples in
     record {

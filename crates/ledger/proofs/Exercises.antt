@@ -5,7 +5,6 @@ use borrow.Author.Differences.{ints}
 use Rattle.std.proofs.lemmas.Bool.{eqb-true, ne_eqb, true≢false, false≢true}
 use Rattle.registers.specs.Rows.{Rows, Rising}
 use Rattle.registers.specs.Sums.{total_ℤ}
-use Rattle.registers.specs.Laws.{inside}
 use Rattle.terms.specs.declared.family.Family.{Family}
 use Rattle.terms.specs.declared.kinds.SeriesKind.{SeriesKind}
 use Rattle.terms.specs.declared.kinds.SeriesKind.TheVariants.{Future, CallOnFuture, PutOnFuture}

@@ -5,7 +5,6 @@ use borrow.Author.Differences.{ints}
 use Rattle.std.proofs.lemmas.Bool.{eqb-true, eq-eqb, ne_eqb, true≢false, false≢true}
 use Rattle.registers.specs.Rows.{Rows}
 use Rattle.terms.specs.declared.family.Family.{Family}
-use Rattle.positions.specs.Positions.{settled}
 use Rattle.positions.specs.Money.{amount, payoff}
 use Rattle.positions.specs.Keys.{future_key}
 use Rattle.ledger.specs.declared.rows.State.{State}

@@ -15,7 +15,6 @@ use Rattle.ledger.specs.Numbers.{kind_of, on_future, is_future_key, kind_of_key,
 use Rattle.ledger.specs.Rows.{at, present, change, Each, sum_below}
 use Rattle.ledger.specs.Book.{Book, family_in, unlisted, kind_at, cash_at, terms_at, value_at, state_at, position_at, is_trading, is_done, final_of}
 use Rattle.ledger.specs.Post.{stated}
-use Rattle.ledger.specs.Judge.{accepted}
 use Rattle.ledger.specs.Ledger.{Journal, kind_in, final_in, given_in, position_in, net, fees}
 use Rattle.ledger.proofs.RowLaws.{at_change, below_same}
 use Rattle.ledger.proofs.PositionLaws.{units_in}

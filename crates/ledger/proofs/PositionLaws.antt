@@ -1,9 +1,9 @@
 -- Positions: what keeps or adds units, where there are no minis, their keys, and what moves from one series to another.
-use Rattle.std.proofs.Common.{◌≡◌, ℕ, zero, suc, ◌+◌, ◌*◌, ◌/◌, ◌%◌, ◌<◌, ◌≤◌, min, Bool, true, false, cond, not, ◌&&◌, eqb, ltb, leb, List, [], ◌∷◌, ℤ, pos, negsuc, ◌+ℤ◌, ◌-ℤ◌, ◌*ℤ◌, neg_ℤ, nat_abs, Some, None, fold, unwrap_or, sym, refl, ap, ◌∙◌, subst, arith}
+use Rattle.std.proofs.Common.{◌≡◌, ℕ, ◌<◌, ◌≤◌, Bool, true, false, cond, not, ◌&&◌, eqb, [], ◌∷◌, ℤ, pos, negsuc, ◌+ℤ◌, ◌-ℤ◌, ◌*ℤ◌, neg_ℤ, nat_abs, sym, refl, ap, ◌∙◌, arith}
 use borrow.Author.Differences.{ints}
 use Rattle.std.proofs.lemmas.Bool.Decides.{nat_tests}
-use Rattle.std.proofs.lemmas.Bool.{eqb-true, eqb-false, eq-eqb, ltb-true, leb-true, true≢false}
-use Rattle.registers.specs.Rows.{Rows, Rising, lookup}
+use Rattle.std.proofs.lemmas.Bool.{eqb-true, eqb-false, leb-true, true≢false}
+use Rattle.registers.specs.Rows.{Rows, Rising}
 use Rattle.registers.specs.Sums.{total_ℤ}
 use Rattle.terms.specs.declared.kinds.AccountKind.{AccountKind}
 use Rattle.terms.specs.declared.kinds.AccountKind.TheVariants.{House, Maker, Client}
@@ -11,14 +11,14 @@ use Rattle.terms.specs.declared.kinds.SeriesKind.{SeriesKind}
 use Rattle.terms.specs.declared.kinds.Size.{Size}
 use Rattle.terms.specs.declared.kinds.Size.TheVariants.{Full, Mini}
 use Rattle.positions.specs.declared.position.Position.{Position}
-use Rattle.positions.specs.Positions.{position, flat, units, is_flat, added, less, opposed, settled, dealt, signed_like, closed, closable}
+use Rattle.positions.specs.Positions.{flat, units, added, less, opposed, settled, dealt, signed_like, closed, closable}
 use Rattle.positions.specs.Keys.{line_key}
 use Rattle.ledger.specs.Calls.{Pricing}
 use Rattle.ledger.specs.Numbers.{series_of_key, account_of_key}
-use Rattle.ledger.specs.Rows.{at, revise, in_series, outside, Each}
+use Rattle.ledger.specs.Rows.{at, revise, outside}
 use Rattle.ledger.specs.Charges.{bought_fees}
-use Rattle.ledger.specs.Post.{lots, assigned, move_each}
-use Rattle.ledger.proofs.RowLaws.{flat_is, at_revise, rising_revise, total-revise, each_revise, at_below, total_kept}
+use Rattle.ledger.specs.Post.{lots, assigned}
+use Rattle.ledger.proofs.RowLaws.{at_revise, total-revise, total_kept}
 
 -- ---- units
 less_units : (k : ℤ) (p : Position) → units (less k p) ≡ units p

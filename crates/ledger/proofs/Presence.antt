@@ -6,14 +6,13 @@ use Rattle.registers.specs.Sums.{share}
 use Rattle.registers.proofs.OneRow.{lookup-put_same, lookup-put_other}
 use Rattle.registers.proofs.Sums.{length-put, length_without}
 use Rattle.positions.specs.declared.position.Position.{Position}
-use Rattle.positions.specs.Positions.{flat, is_flat, less}
+use Rattle.positions.specs.Positions.{flat, is_flat}
 use Rattle.ledger.specs.declared.rows.Account.{Account}
 use Rattle.ledger.specs.Numbers.{account_of_key}
 use Rattle.ledger.specs.Rows.{at, present, change, revise, first, Each}
 use Rattle.ledger.specs.Book.{nobody}
 use Rattle.ledger.specs.Post.{paid, pay, pay_each}
 use Rattle.ledger.proofs.RowLaws.{present_keep, present_change, each_more}
-use Rattle.ledger.proofs.KeyLaws.{apart}
 
 share_one : {V : Type 0} (k : ℕ) (o : Option V) → is_some o ≡ true → share (λ _ _. 1) k o ≡ 1
 share_one k None e = absurd (false≢true e)

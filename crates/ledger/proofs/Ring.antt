@@ -1,5 +1,5 @@
 -- The laws of a product of integers, and of amounts, which are linear in units and in the move of a price.
-use Rattle.std.proofs.Common.{◌≡◌, ℕ, ◌+◌, ◌*◌, ℤ, pos, ◌+ℤ◌, ◌*ℤ◌, neg_ℤ, sym, refl, ap, ◌∙◌, arith}
+use Rattle.std.proofs.Common.{◌≡◌, ℕ, ◌+◌, ◌*◌, ℤ, pos, ◌+ℤ◌, ◌*ℤ◌, neg_ℤ, ap, ◌∙◌, arith}
 use lib.IntN.{*ℤ_comm}
 use borrow.Author.Differences.{ints, up, down, sum_is_lem, neg_is, product_is, same_in}
 use Rattle.terms.specs.declared.family.Family.{Family}

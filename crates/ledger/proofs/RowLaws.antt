@@ -1,9 +1,9 @@
 -- Rows: what a change does to what stands under a key, to a sum and to the order; the rows of one series; sums over numbers.
-use Rattle.std.proofs.Common.{◌≡◌, ℕ, zero, suc, ◌+◌, ◌*◌, ◌/◌, ◌<◌, ◌≤◌, Bool, true, false, cond, not, eqb, ltb, leb, List, [], ◌∷◌, ◌++◌, length, ℤ, pos, ◌+ℤ◌, ◌-ℤ◌, neg_ℤ, nat_abs, is_some, Some, None, filter, Option, unwrap_or, sym, refl, ap, ◌∙◌, subst, zero-le, arith}
+use Rattle.std.proofs.Common.{◌≡◌, ℕ, zero, suc, ◌<◌, ◌≤◌, Bool, true, false, cond, not, eqb, ltb, [], ◌∷◌, ◌++◌, length, ℤ, pos, ◌+ℤ◌, ◌-ℤ◌, neg_ℤ, nat_abs, is_some, Some, None, filter, Option, unwrap_or, sym, refl, ap, ◌∙◌, subst, zero-le, arith}
 use mathlib.Core.Path.{fun_ext}
 use borrow.Author.Differences.{ints}
 use Rattle.std.proofs.lemmas.Bool.Decides.{nat_tests}
-use Rattle.std.proofs.lemmas.Bool.{eqb-true, eqb-false, ne_eqb, ltb-true, and_parts, true≢false, false≢true}
+use Rattle.std.proofs.lemmas.Bool.{eqb-true, eqb-false, ne_eqb, ltb-true, and_parts, true≢false}
 use Rattle.registers.specs.Rows.{Rows, lookup, put, without, Rising}
 use Rattle.registers.specs.Stretches.{front, stretch, rest}
 use Rattle.registers.specs.Sums.{total_ℤ, share_ℤ}
@@ -15,7 +15,7 @@ use Rattle.positions.specs.declared.position.Position.{Position}
 use Rattle.positions.specs.Positions.{flat, is_flat}
 use Rattle.positions.specs.Keys.{line_key}
 use Rattle.ledger.specs.Numbers.{series_of_key}
-use Rattle.ledger.specs.Rows.{at, present, change, placed, revise, in_series, outside, Each, sum_below}
+use Rattle.ledger.specs.Rows.{at, present, change, revise, in_series, outside, Each, sum_below}
 
 -- ---- what stands under a key
 absent_or : {V : Type 0} (d : V) (o : Option V) → is_some o ≡ false → unwrap_or o d ≡ d

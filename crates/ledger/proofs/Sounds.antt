@@ -29,7 +29,7 @@ use Rattle.ledger.proofs.Ring.{zero_amount}
 use Rattle.ledger.proofs.RowLaws.{at_absent, at_change, present_keep, present_change, each_kept, flat_is, at_outside, length-outside}
 use Rattle.ledger.proofs.PositionLaws.{assigned_none, closable_minis, bought_fees_none, series_of_key_lem, account_of_key_lem, at_line}
 use Rattle.ledger.proofs.CashLaws.{cash_pay, cash_pay_each}
-use Rattle.ledger.proofs.KeyLaws.{key_future, key_month, apart}
+use Rattle.ledger.proofs.KeyLaws.{key_future, key_month}
 use Rattle.ledger.proofs.Kept.{Good, Kept, on, at_terms}
 use Rattle.ledger.proofs.Accepted.{ListPassed, TradePassed, ClosePassed, MarkPassed, DeltaPassed, EnterPassed, ExercisePassed, SettlePassed, Passed}
 use Rattle.ledger.proofs.Exercises.{turned_zero}

@@ -4,7 +4,6 @@ use borrow.Author.Differences.{ints}
 use Rattle.std.proofs.lemmas.Bool.{eqb-true, true≢false}
 use Rattle.registers.specs.Rows.{Rows, Rising}
 use Rattle.registers.specs.Sums.{total_ℤ}
-use Rattle.registers.specs.Laws.{inside}
 use Rattle.terms.specs.declared.kinds.AccountKind.{AccountKind}
 use Rattle.terms.specs.declared.kinds.Size.{Size}
 use Rattle.positions.specs.declared.position.Position.{Position}

@@ -18,7 +18,6 @@ use Rattle.ledger.specs.Runs.{judge, afterwards, step, run}
 use Rattle.ledger.specs.Ledger.{Journal, given_in, position_in, worth, fees, exposure}
 use Rattle.ledger.specs.Laws.{noted, journal, Held, Quiet, AllQuiet, Limited, BalancedAfterEveryRun}
 use Rattle.ledger.specs.Sound.{Sound, SoundAfterEveryRun}
-use Rattle.ledger.specs.Figures.{listed, ended}
 use Rattle.ledger.proofs.RowLaws.{each_more, total_kept, below_same, below_zero}
 use Rattle.ledger.proofs.CashLaws.{brings_below}
 use Rattle.ledger.proofs.Worth.{worth_then}

@@ -1,5 +1,5 @@
 -- The law of whole runs.
-use Rattle.std.specs.Prelude.{◌≡◌, ℕ, ◌<◌, ◌≤◌, max, Bool, true, false, List, [], ◌∷◌, ◌++◌, ℤ, pos, ◌+ℤ◌, ◌-ℤ◌, Ok, Err, unsigned_abs}
+use Rattle.std.specs.Prelude.{◌≡◌, ℕ, ◌<◌, ◌≤◌, max, Bool, true, false, List, [], ◌∷◌, ◌++◌, pos, ◌+ℤ◌, ◌-ℤ◌, Ok, Err, unsigned_abs}
 use Rattle.registers.specs.Rows.{Rising}
 use Rattle.registers.specs.Sums.{total_ℤ}
 use Rattle.terms.specs.declared.refusal.Refusal.{Refusal}

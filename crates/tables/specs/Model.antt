@@ -1,5 +1,5 @@
 -- The book of the rules that tables hold.
-use Rattle.std.specs.Prelude.{◌≡◌, ℕ, None, Ok, Err, Result}
+use Rattle.std.specs.Prelude.{◌≡◌, None, Ok, Err, Result}
 use Rattle.registers.specs.Held.{rows_of, room_of}
 use Rattle.terms.specs.declared.refusal.Refusal.{Refusal}
 use Rattle.ledger.specs.Calls.{Call, Pricing, Event}

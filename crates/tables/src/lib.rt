@@ -1,5 +1,6 @@
 //! The three registers of a book, opened over supplied space, and what is read from them.
 #![tactic(auto)]
+
 mod opening;
 mod tables;
 

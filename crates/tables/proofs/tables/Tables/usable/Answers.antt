@@ -8,21 +8,21 @@ use Rattle.tables.proofs.tables.Tables.usable.Goals as goal
 pub returns-in_err-family : goal.returns-in_err-family
 unfolding judging.need
 returns-in_err-family c =
-    let p = err_from_is_err_and c.from-residual.result c.from-residual.ensures.1 in
+    let p = err_from_is_err_and c.from_residual.result c.from_residual.ensures.1 in
     let h = c.in_err-family.ensures in
     rw (p.1, p.2) (search rules)
 
-pub returns-then-not-book-accepts : goal.returns-then-not-book-accepts
+pub returns-then-not-book_accepts : goal.returns-then-not-book_accepts
 unfolding judging.need
-returns-then-not-book-accepts c = search rules
+returns-then-not-book_accepts c = search rules
 
-pub returns-then-not-book-accepts-2 : goal.returns-then-not-book-accepts-2
+pub returns-then-not-book_accepts-2 : goal.returns-then-not-book_accepts-2
 unfolding judging.need
-returns-then-not-book-accepts-2 c = search rules
+returns-then-not-book_accepts-2 c = search rules
 
-pub returns-then-not-book-accepts-3 : goal.returns-then-not-book-accepts-3
+pub returns-then-not-book_accepts-3 : goal.returns-then-not-book_accepts-3
 unfolding judging.need
-returns-then-not-book-accepts-3 c = search rules
+returns-then-not-book_accepts-3 c = search rules
 
 pub returns : goal.returns
 unfolding judging.need

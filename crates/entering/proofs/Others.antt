@@ -9,7 +9,7 @@ use Rattle.terms.specs.declared.kinds.SeriesKind.{SeriesKind}
 use Rattle.terms.specs.declared.kinds.SeriesKind.TheVariants.{Future, Call, Put, CallOnFuture, PutOnFuture}
 use Rattle.ledger.specs.declared.rows.State.{State}
 use Rattle.ledger.specs.declared.rows.State.TheVariants.{Trading, Fixed, Done}
-use Rattle.ledger.specs.Book.{is_trading, is_done}
+use Rattle.ledger.specs.Book.{is_done}
 use Rattle.ledger.specs.Numbers.{is_future}
 
 pub not_future : (k : SeriesKind) → (k ≡ Future → ⊥) → is_future k ≡ false

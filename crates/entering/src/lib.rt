@@ -1,5 +1,6 @@
 //! The calls that move no cash: admit, list, close, delta and enter.
 #![tactic(auto)]
+
 mod admission;
 mod closing;
 mod deltas;

@@ -1,14 +1,13 @@
 -- A new mark by the rules.
-use Rattle.std.proofs.Common.{◌≡◌, ℕ, ◌<◌, ◌≤◌, Bool, true, false, cond, ◌&&◌, leb, ℤ, pos, ◌+ℤ◌, ◌-ℤ◌, Some, None, Ok, Err, Option, unwrap_or, sym, refl, ap, ◌∙◌, subst, arith}
+use Rattle.std.proofs.Common.{◌≡◌, ℕ, Bool, true, false, cond, ◌&&◌, leb, ℤ, pos, ◌+ℤ◌, ◌-ℤ◌, Some, None, Ok, Err, Option, unwrap_or, sym, refl, ap, ◌∙◌, arith}
 use Rattle.std.proofs.lemmas.Bool.{and_parts, and_from, le-leb, leb-true}
 use Rattle.terms.specs.declared.refusal.Reason.TheVariants.{OutOfRange, Absent, WrongState, AmountOutOfRange}
 use Rattle.terms.specs.Refusals.{plain}
 use Rattle.terms.specs.Ranges.{Within}
 use Rattle.registers.specs.Rows.{Rows, Rising, lookup}
-use Rattle.registers.specs.Held.{rows_of}
 use Rattle.registers.proofs.Always.{rising}
 use Rattle.positions.specs.declared.position.Position.{Position}
-use Rattle.positions.specs.Positions.{units, flat, in_range}
+use Rattle.positions.specs.Positions.{units, in_range}
 use Rattle.positions.specs.Money.{amount, balance_in}
 use Rattle.positions.specs.Keys.{future_key}
 use Rattle.ledger.specs.declared.rows.State.{State}

@@ -1,10 +1,10 @@
 -- The positions in a series: neighbours in their register, one for each of several accounts.
-use Rattle.std.proofs.Common.{◌≡◌, ℕ, suc, ◌+◌, ◌-◌, ◌*◌, ◌<◌, ◌≤◌, Bool, true, false, cond, eqb, List, [], ◌∷◌, map, length, take, drop, filter, sym, refl, ap, ◌∙◌, subst, arith}
+use Rattle.std.proofs.Common.{◌≡◌, ℕ, suc, ◌+◌, ◌-◌, ◌*◌, ◌≤◌, Bool, true, false, cond, eqb, List, [], ◌∷◌, map, take, drop, filter, refl, ap, ◌∙◌, arith}
 use Rattle.std.specs.List.{zip, between}
 use Rattle.std.proofs.lemmas.List.{take-map, drop-map}
 use Rattle.std.proofs.lemmas.Bool.{eqb-true}
 use Rattle.registers.specs.Rows.{Rows, Rising, keys_in, contents_in, below}
-use Rattle.registers.specs.Stretches.{front, onwards, stretch, StretchAt}
+use Rattle.registers.specs.Stretches.{onwards, stretch, StretchAt}
 use Rattle.registers.proofs.OneRow.{rising_down}
 use Rattle.registers.proofs.Stretches.{length_front, length-stretch}
 use Rattle.positions.specs.declared.position.Position.{Position}

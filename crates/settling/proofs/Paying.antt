@@ -1,21 +1,19 @@
 -- Amounts tested against the balances before are tested against those after: the accounts of a series' positions are several.
-use Rattle.std.proofs.Common.{◌≡◌, ℕ, suc, ◌<◌, ◌≤◌, Bool, true, false, cond, not, ◌&&◌, List, [], ◌∷◌, ℤ, ◌+ℤ◌, is_some, Some, None, Ok, Err, Option, unwrap_or, sym, refl, ap, ◌∙◌, subst, arith}
+use Rattle.std.proofs.Common.{◌≡◌, ℕ, suc, ◌<◌, ◌≤◌, Bool, true, false, cond, not, [], ◌∷◌, ℤ, ◌+ℤ◌, is_some, Some, None, Ok, Option, unwrap_or, sym, refl, ap, ◌∙◌, arith}
 use Rattle.std.specs.Option.{option_map}
 use Rattle.std.proofs.lemmas.Bool.{false≢true}
 use Rattle.terms.specs.declared.refusal.Reason.TheVariants.{AmountOutOfRange}
 use Rattle.terms.specs.Refusals.{about}
 use Rattle.registers.specs.Rows.{Rows, Rising, lookup}
 use Rattle.registers.proofs.OneRow.{lookup-put_other}
-use Rattle.positions.specs.declared.position.Position.{Position}
-use Rattle.positions.specs.Positions.{in_range}
 use Rattle.positions.specs.Money.{balance_in}
 use Rattle.ledger.specs.declared.rows.Account.{Account}
 use Rattle.ledger.specs.Numbers.{series_of_key, account_of_key}
 use Rattle.ledger.specs.Rows.{at, present, change, first, Each}
 use Rattle.ledger.specs.Book.{nobody}
-use Rattle.ledger.specs.Judge.{Verdict, need, unless}
+use Rattle.ledger.specs.Judge.{need, unless}
 use Rattle.ledger.specs.Post.{pay}
-use Rattle.settling.specs.Payments.{takes, affords, tested, Ready, pay_all}
+use Rattle.settling.specs.Payments.{takes, affords, tested, Ready}
 
 pub affords_there : (cs : Rows Account) (a : ℕ) (x : ℤ) → present cs a ≡ true → affords cs a x ≡ balance_in ((at nobody cs a).cash +ℤ x)
 affords_there cs a x h = ways (lookup cs a) h

@@ -1,5 +1,6 @@
 //! New marks of futures, and series that are settled.
 #![tactic(auto)]
+
 mod gain;
 mod gains;
 mod lines;

@@ -13,8 +13,8 @@ use terms::Refusal;
 /// Trades: so many contracts go from the seller to the buyer, who settle in cash, and both pay the tariff's fees to the
 /// exchange. All tests are made first; a refused trade changes neither the tables nor the tariff's standing.
 pub fn trade<T: Tariff>(tables: &mut Tables, tariff: &mut T, trade: Trade) -> Result<(), Refusal>
-    ensures follows { Follows (event_of (price tariff.old) (trade_of trade)) tables.old tables.new result }
-    ensures standing { tariff.new ≡ standing_after after tariff.old (model_of tables.old) (event_of (price tariff.old) (trade_of trade)) }
+    ensures follows { Follows (event_of (T.Tariff.price tariff.old) (trade_of trade)) tables.old tables.new result }
+    ensures standing { tariff.new ≡ standing_after T.Tariff.after tariff.old (model_of tables.old) (event_of (T.Tariff.price tariff.old) (trade_of trade)) }
 {
     let outcome = judged(tables, tariff, trade)?;
     tariff.charge(&outcome.buyer.side);

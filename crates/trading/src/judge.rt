@@ -37,7 +37,7 @@ fn priced<T: Tariff>(
     requires known { known (model_of tables.now) (trade_in deal.now) ≡ Ok tt }
     requires parties { parties.now ≡ parties_at (model_of tables.now) (trade_in deal.now) }
     requires moves { MovesOf (model_of tables.now) (trade_in deal.now) moves.now }
-    ensures { Judges (also (rated_all (price tariff.now) (charged (model_of tables.now) (calls.trade (trade_in deal.now)))) (afforded (trade_in deal.now) (post (model_of tables.now) (calls.trade (trade_in deal.now)) (price tariff.now)))) (OutcomeOf (model_of tables.now) (trade_in deal.now) (price tariff.now)) result }
+    ensures { Judges (also (rated_all (T.Tariff.price tariff.now) (charged (model_of tables.now) (calls.trade (trade_in deal.now)))) (afforded (trade_in deal.now) (post (model_of tables.now) (calls.trade (trade_in deal.now)) (T.Tariff.price tariff.now)))) (OutcomeOf (model_of tables.now) (trade_in deal.now) (T.Tariff.price tariff.now)) result }
 {
     let buyer = side(deal, deal.buyer, parties.buyer.kind);
     let seller = side(deal, deal.seller, parties.seller.kind);
@@ -51,7 +51,7 @@ pub(crate) fn judged<T: Tariff>(
     tariff: &T,
     trade: Trade,
 ) -> Result<Outcome, Refusal>
-    ensures { Judges (judge (model_of tables.now) (event_of (price tariff.now) (trade_of trade))) (OutcomeOf (model_of tables.now) (trade_of trade) (price tariff.now)) result }
+    ensures { Judges (judge (model_of tables.now) (event_of (T.Tariff.price tariff.now) (trade_of trade))) (OutcomeOf (model_of tables.now) (trade_of trade) (T.Tariff.price tariff.now)) result }
 {
     let family = tables.usable()?;
     let deal = deal(family, trade)?;

@@ -1,5 +1,6 @@
 //! The call of a trade: its numbers become a deal, which is judged by the tables, charged and posted.
 #![tactic(auto)]
+
 mod amounts;
 mod call;
 mod deal;

@@ -1,8 +1,7 @@
-use Rattle.std.proofs.Common.{◌≡◌, Bool, true, false, cond, ◌||◌, pos, is_some, Ok, Err, sym, refl, ap, ◌∙◌, rules}
+use Rattle.std.proofs.Common.{◌≡◌, Bool, true, ◌||◌, pos, is_some, sym, refl, ap, ◌∙◌}
 use Rattle.std.proofs.lemmas.Result.{err_from_is_err_and}
 use Rattle.registers.specs.Held.{rows_of, room_of}
-use Rattle.registers.specs.Rows.{Rows, lookup, put, place_for}
-use Rattle.ledger.specs.declared.rows.Account.{Account}
+use Rattle.registers.specs.Rows.{lookup, put, place_for}
 use Rattle.ledger.specs.Calls.{admit}
 use Rattle.ledger.specs.Judge as judging
 use Rattle.ledger.specs.Post.{post}
@@ -16,13 +15,13 @@ use Rattle.entering.proofs.admission.admit.Goals as goal
 
 pub returns-in_err-usable : goal.returns-in_err-usable
 returns-in_err-usable c =
-    let p = err_from_is_err_and c.from-residual.result c.from-residual.ensures.1 in
+    let p = err_from_is_err_and c.from_residual.result c.from_residual.ensures.1 in
     rw (p.1, p.2) (refused _ c.args.tables.now _ _ refl (never_opened c.args.tables.now _ _ c.in_err-usable.ensures))
 
 pub returns-in_err-kind : goal.returns-in_err-kind
 unfolding judging.judge_call
 returns-in_err-kind c =
-    let p = err_from_is_err_and c.from-residual-in_err-kind.result c.from-residual-in_err-kind.ensures.1 in
+    let p = err_from_is_err_and c.from_residual-in_err-kind.result c.from_residual-in_err-kind.ensures.1 in
     rw (p.1, p.2) (refused _ c.args.tables.now _ _ refl (judge_is c.args.tables.now _ c.in_ok-usable.ensures.0 ∙ c.in_err-kind.ensures))
 
 pub returns : goal.returns

@@ -1,7 +1,6 @@
-use Rattle.std.proofs.Common.{◌≡◌, ℕ, ◌≤◌, Bool, true, false, ◌||◌, ltb, length, is_some, Ok, Err, sym, refl, ap, ◌∙◌, subst, rules}
+use Rattle.std.proofs.Common.{◌≡◌, ℕ, ◌≤◌, Bool, true, false, ◌||◌, ltb, length, refl, ap, ◌∙◌, subst}
 use Rattle.std.proofs.lemmas.Result.{err_from_is_err_and}
 use Rattle.registers.specs.Held.{rows_of, room_of}
-use Rattle.registers.specs.Rows.{lookup, place_for}
 use Rattle.positions.specs.declared.position.Position.{Position}
 use Rattle.positions.specs.Keys.{line_key}
 use Rattle.positions.specs.Positions.{flat, closable, closed}
@@ -26,13 +25,13 @@ closed-requires c = c.in_ok-family.ensures.1
 
 pub returns-in_err-family : goal.returns-in_err-family
 returns-in_err-family c =
-    let p = err_from_is_err_and c.from-residual.result c.from-residual.ensures.1 in
+    let p = err_from_is_err_and c.from_residual.result c.from_residual.ensures.1 in
     rw (p.1, p.2) (refused _ c.args.tables.now _ _ refl (never_opened c.args.tables.now _ _ c.in_err-family.ensures))
 
 pub returns-in_err-left : goal.returns-in_err-left
 unfolding judging.judge_call
 returns-in_err-left c =
-    let p = err_from_is_err_and c.from-residual-in_err-left.result c.from-residual-in_err-left.ensures.1 in
+    let p = err_from_is_err_and c.from_residual-in_err-left.result c.from_residual-in_err-left.ensures.1 in
     rw (p.1, p.2) (refused _ c.args.tables.now _ _ refl (judge_is c.args.tables.now _ c.in_ok-family.ensures.0 ∙ c.in_err-left.ensures))
 
 -- what is closed is there

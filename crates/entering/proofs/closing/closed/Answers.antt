@@ -1,4 +1,4 @@
-use Rattle.std.proofs.Common.{◌≡◌, ℕ, Bool, true, false, cond, ◌&&◌, leb, is_some, Some, None, Option, unwrap_or, sym, refl, ap, ◌∙◌, arith, rules}
+use Rattle.std.proofs.Common.{◌≡◌, ℕ, true, false, cond, is_some, Some, None, Option, unwrap_or, sym, ap, ◌∙◌, arith, rules}
 use Rattle.std.proofs.lemmas.Result.{err_from_is_err_and}
 use Rattle.std.proofs.lemmas.Bool.Decides.{nat_tests}
 use Rattle.registers.specs.Held.{rows_of}
@@ -17,12 +17,12 @@ use Rattle.entering.proofs.closing.closed.Goals as goal
 
 pub returns-in_err-series : goal.returns-in_err-series
 returns-in_err-series c =
-    let p = err_from_is_err_and c.from-residual.result c.from-residual.ensures.1 in
+    let p = err_from_is_err_and c.from_residual.result c.from_residual.ensures.1 in
     let h = c.in_err-series.ensures in
     rw (p.1, p.2, h.1) (fails _ _ _ (range_not c.args.tables.now.family c.args.family c.requires c.args.kind c.args.month c.args.strike h.0))
 
-pub returns-then-account-eq-NO-ACCOUNT : goal.returns-then-account-eq-NO-ACCOUNT
-returns-then-account-eq-NO-ACCOUNT c =
+pub returns-then-account-eq-NO_ACCOUNT : goal.returns-then-account-eq-NO_ACCOUNT
+returns-then-account-eq-NO_ACCOUNT c =
     let t = c.args.tables.now in
     let h = c.in_ok-series.ensures in
     let s = c.in_ok-series.series in
@@ -41,8 +41,8 @@ returns-then-not-counts c =
     let a : account_in c.args.account ≡ true = grind (arith, nat_tests) in
     passes _ _ _ r ∙ passes _ _ _ a ∙ fails _ _ _ (sym c.counts.ensures ∙ c.if-not-counts.true) ∙ search rules
 
-pub returns-then-not-on-step : goal.returns-then-not-on-step
-returns-then-not-on-step c =
+pub returns-then-not-on_step : goal.returns-then-not-on_step
+returns-then-not-on_step c =
     let t = c.args.tables.now in
     let h = c.in_ok-series.ensures in
     let s = c.in_ok-series.series in
@@ -51,10 +51,10 @@ returns-then-not-on-step c =
     let a : account_in c.args.account ≡ true = grind (arith, nat_tests) in
     let d : deal_in c.args.count ≡ true = sym c.counts.ensures ∙ c.if-not-counts.false in
     let o : is_on_step (family_of t.family) x ≡ c.on_step.result = step_is t.family c.args.family c.requires c.args.kind c.args.month c.args.strike s h ∙ sym c.on_step.ensures in
-    passes _ _ _ r ∙ passes _ _ _ a ∙ passes _ _ _ d ∙ fails _ _ _ (o ∙ c.if-not-on-step.true) ∙ search rules
+    passes _ _ _ r ∙ passes _ _ _ a ∙ passes _ _ _ d ∙ fails _ _ _ (o ∙ c.if-not-on_step.true) ∙ search rules
 
-pub returns-then-is-none : goal.returns-then-is-none
-returns-then-is-none c =
+pub returns-then-is_none : goal.returns-then-is_none
+returns-then-is_none c =
     let t = c.args.tables.now in
     let h = c.in_ok-series.ensures in
     let s = c.in_ok-series.series in
@@ -65,10 +65,10 @@ returns-then-is-none c =
     let o : is_on_step (family_of t.family) x ≡ c.on_step.result = step_is t.family c.args.family c.requires c.args.kind c.args.month c.args.strike s h ∙ sym c.on_step.ensures in
     let u : present (rows_of t.accounts) c.args.account ≡ is_some c.read.result = ap is_some (sym (c.read.ensures ∙ ap (lookup (rows_of t.accounts)) c.from.ensures)) in
     let y : is_some c.read.result ≡ false = search rules in
-    passes _ _ _ r ∙ passes _ _ _ a ∙ passes _ _ _ d ∙ passes _ _ _ (o ∙ c.if-not-on-step.false) ∙ fails _ _ _ (u ∙ y) ∙ search rules
+    passes _ _ _ r ∙ passes _ _ _ a ∙ passes _ _ _ d ∙ passes _ _ _ (o ∙ c.if-not-on_step.false) ∙ fails _ _ _ (u ∙ y) ∙ search rules
 
-pub returns-then-is-none-2 : goal.returns-then-is-none-2
-returns-then-is-none-2 c =
+pub returns-then-is_none-2 : goal.returns-then-is_none-2
+returns-then-is_none-2 c =
     let t = c.args.tables.now in
     let h = c.in_ok-series.ensures in
     let s = c.in_ok-series.series in
@@ -78,14 +78,14 @@ returns-then-is-none-2 c =
     let d : deal_in c.args.count ≡ true = sym c.counts.ensures ∙ c.if-not-counts.false in
     let o : is_on_step (family_of t.family) x ≡ c.on_step.result = step_is t.family c.args.family c.requires c.args.kind c.args.month c.args.strike s h ∙ sym c.on_step.ensures in
     let u : present (rows_of t.accounts) c.args.account ≡ is_some c.read.result = ap is_some (sym (c.read.ensures ∙ ap (lookup (rows_of t.accounts)) c.from.ensures)) in
-    let e : c.series-key.result ≡ key_of x = c.series-key.ensures.value ∙ has_key c.args.family c.args.kind c.args.month c.args.strike s h in
+    let e : c.series_key.result ≡ key_of x = c.series_key.ensures.value ∙ has_key c.args.family c.args.kind c.args.month c.args.strike s h in
     let v : present (rows_of t.series) (key_of x) ≡ is_some c.read-2.result = ap is_some (sym (c.read-2.ensures ∙ ap (lookup (rows_of t.series)) e)) in
     let y : is_some c.read.result ≡ true = search rules in
     let z : is_some c.read-2.result ≡ false = search rules in
-    passes _ _ _ r ∙ passes _ _ _ a ∙ passes _ _ _ d ∙ passes _ _ _ (o ∙ c.if-not-on-step.false) ∙ passes _ _ _ (u ∙ y) ∙ fails _ _ _ (v ∙ z) ∙ search rules
+    passes _ _ _ r ∙ passes _ _ _ a ∙ passes _ _ _ d ∙ passes _ _ _ (o ∙ c.if-not-on_step.false) ∙ passes _ _ _ (u ∙ y) ∙ fails _ _ _ (v ∙ z) ∙ search rules
 
-pub returns-in-default : goal.returns-in-default
-returns-in-default c =
+pub returns-in_default : goal.returns-in_default
+returns-in_default c =
     let t = c.args.tables.now in
     let h = c.in_ok-series.ensures in
     let s = c.in_ok-series.series in
@@ -95,14 +95,14 @@ returns-in-default c =
     let d : deal_in c.args.count ≡ true = sym c.counts.ensures ∙ c.if-not-counts.false in
     let o : is_on_step (family_of t.family) x ≡ c.on_step.result = step_is t.family c.args.family c.requires c.args.kind c.args.month c.args.strike s h ∙ sym c.on_step.ensures in
     let u : present (rows_of t.accounts) c.args.account ≡ is_some c.read.result = ap is_some (sym (c.read.ensures ∙ ap (lookup (rows_of t.accounts)) c.from.ensures)) in
-    let e : c.series-key.result ≡ key_of x = c.series-key.ensures.value ∙ has_key c.args.family c.args.kind c.args.month c.args.strike s h in
+    let e : c.series_key.result ≡ key_of x = c.series_key.ensures.value ∙ has_key c.args.family c.args.kind c.args.month c.args.strike s h in
     let v : present (rows_of t.series) (key_of x) ≡ is_some c.read-2.result = ap is_some (sym (c.read-2.ensures ∙ ap (lookup (rows_of t.series)) e)) in
-    let l : c.line-key-key.result ≡ line_key (key_of x) c.args.account = c.line-key-key.ensures ∙ ap (λ (i : ℕ). line_key i c.args.account) (has_key c.args.family c.args.kind c.args.month c.args.strike s h) in
-    let w : c.unwrap-or-held.result ≡ position_at (model_of t) (key_of x) c.args.account = c.unwrap-or-held.ensures ∙ ap (λ (q : Option Position). unwrap_or q flat) (c.read-3.ensures ∙ ap (lookup (rows_of t.positions)) l) in
+    let l : c.line_key-key.result ≡ line_key (key_of x) c.args.account = c.line_key-key.ensures ∙ ap (λ (i : ℕ). line_key i c.args.account) (has_key c.args.family c.args.kind c.args.month c.args.strike s h) in
+    let w : c.unwrap_or-held.result ≡ position_at (model_of t) (key_of x) c.args.account = c.unwrap_or-held.ensures ∙ ap (λ (q : Option Position). unwrap_or q flat) (c.read-3.ensures ∙ ap (lookup (rows_of t.positions)) l) in
     let y : is_some c.read.result ≡ true = search rules in
     let z : is_some c.read-2.result ≡ true = search rules in
-    let q : closable c.args.count (position_at (model_of t) (key_of x) c.args.account) ≡ false = none_closed _ _ (sym (c.closed.ensures ∙ ap (λ (i : Position). cond (closable c.args.count i) (Some (closed c.args.count i)) None) w) ∙ c.in-default.is) in
-    passes _ _ _ r ∙ passes _ _ _ a ∙ passes _ _ _ d ∙ passes _ _ _ (o ∙ c.if-not-on-step.false) ∙ passes _ _ _ (u ∙ y) ∙ passes _ _ _ (v ∙ z) ∙ fails _ _ _ q ∙ search rules
+    let q : closable c.args.count (position_at (model_of t) (key_of x) c.args.account) ≡ false = none_closed _ _ (sym (c.closed.ensures ∙ ap (λ (i : Position). cond (closable c.args.count i) (Some (closed c.args.count i)) None) w) ∙ c.in_default.is) in
+    passes _ _ _ r ∙ passes _ _ _ a ∙ passes _ _ _ d ∙ passes _ _ _ (o ∙ c.if-not-on_step.false) ∙ passes _ _ _ (u ∙ y) ∙ passes _ _ _ (v ∙ z) ∙ fails _ _ _ q ∙ search rules
 
 pub returns : goal.returns
 returns c =
@@ -115,13 +115,13 @@ returns c =
     let d : deal_in c.args.count ≡ true = sym c.counts.ensures ∙ c.if-not-counts.false in
     let o : is_on_step (family_of t.family) x ≡ c.on_step.result = step_is t.family c.args.family c.requires c.args.kind c.args.month c.args.strike s h ∙ sym c.on_step.ensures in
     let u : present (rows_of t.accounts) c.args.account ≡ is_some c.read.result = ap is_some (sym (c.read.ensures ∙ ap (lookup (rows_of t.accounts)) c.from.ensures)) in
-    let e : c.series-key.result ≡ key_of x = c.series-key.ensures.value ∙ has_key c.args.family c.args.kind c.args.month c.args.strike s h in
+    let e : c.series_key.result ≡ key_of x = c.series_key.ensures.value ∙ has_key c.args.family c.args.kind c.args.month c.args.strike s h in
     let v : present (rows_of t.series) (key_of x) ≡ is_some c.read-2.result = ap is_some (sym (c.read-2.ensures ∙ ap (lookup (rows_of t.series)) e)) in
-    let l : c.line-key-key.result ≡ line_key (key_of x) c.args.account = c.line-key-key.ensures ∙ ap (λ (i : ℕ). line_key i c.args.account) (has_key c.args.family c.args.kind c.args.month c.args.strike s h) in
-    let w : c.unwrap-or-held.result ≡ position_at (model_of t) (key_of x) c.args.account = c.unwrap-or-held.ensures ∙ ap (λ (q : Option Position). unwrap_or q flat) (c.read-3.ensures ∙ ap (lookup (rows_of t.positions)) l) in
+    let l : c.line_key-key.result ≡ line_key (key_of x) c.args.account = c.line_key-key.ensures ∙ ap (λ (i : ℕ). line_key i c.args.account) (has_key c.args.family c.args.kind c.args.month c.args.strike s h) in
+    let w : c.unwrap_or-held.result ≡ position_at (model_of t) (key_of x) c.args.account = c.unwrap_or-held.ensures ∙ ap (λ (q : Option Position). unwrap_or q flat) (c.read-3.ensures ∙ ap (lookup (rows_of t.positions)) l) in
     let y : is_some c.read.result ≡ true = search rules in
     let z : is_some c.read-2.result ≡ true = search rules in
     let q = some_closed _ _ _ (sym (ap (λ (i : Position). cond (closable c.args.count i) (Some (closed c.args.count i)) None) w) ∙ sym c.closed.ensures ∙ c.in-Some.is) in (
-      passes _ _ _ r ∙ passes _ _ _ a ∙ passes _ _ _ d ∙ passes _ _ _ (o ∙ c.if-not-on-step.false) ∙ passes _ _ _ (u ∙ y) ∙ passes _ _ _ (v ∙ z) ∙ passes _ _ _ q.0,
+      passes _ _ _ r ∙ passes _ _ _ a ∙ passes _ _ _ d ∙ passes _ _ _ (o ∙ c.if-not-on_step.false) ∙ passes _ _ _ (u ∙ y) ∙ passes _ _ _ (v ∙ z) ∙ passes _ _ _ q.0,
       record { has_key = l; has_position = q.1 },
     )

@@ -1,10 +1,9 @@
-use Rattle.std.proofs.Common.{◌≡◌, Bool, true, ◌||◌, ltb, length, Ok, Err, sym, refl, ap, ◌∙◌, w32, rules}
+use Rattle.std.proofs.Common.{◌≡◌, Bool, true, ◌||◌, ltb, length, Ok, Err, refl, ap, ◌∙◌, w32, rules}
 use Rattle.std.proofs.lemmas.Int.{to_z-of_z}
 use Rattle.std.proofs.lemmas.Result.{err_from_is_err_and}
 use Rattle.registers.specs.Held.{rows_of, room_of}
 use Rattle.registers.specs.Rows.{put, place_for}
 use Rattle.ledger.specs.Book.{state_at}
-use Rattle.ledger.specs.Calls.{delta}
 use Rattle.ledger.specs.Judge as judging
 use Rattle.ledger.specs.Numbers.{key_of}
 use Rattle.ledger.specs.Post.{post}
@@ -20,13 +19,13 @@ weighed-requires c = c.in_ok-family.ensures.1
 
 pub returns-in_err-family : goal.returns-in_err-family
 returns-in_err-family c =
-    let p = err_from_is_err_and c.from-residual.result c.from-residual.ensures.1 in
+    let p = err_from_is_err_and c.from_residual.result c.from_residual.ensures.1 in
     rw (p.1, p.2) (refused _ c.args.tables.now _ _ refl (never_opened c.args.tables.now _ _ c.in_err-family.ensures))
 
 pub returns-in_err-found : goal.returns-in_err-found
 unfolding judging.judge_call
 returns-in_err-found c =
-    let p = err_from_is_err_and c.from-residual-in_err-found.result c.from-residual-in_err-found.ensures.1 in
+    let p = err_from_is_err_and c.from_residual-in_err-found.result c.from_residual-in_err-found.ensures.1 in
     let e : judging.judge_delta (model_of c.args.tables.now) (numbers c.args.kind c.args.month c.args.strike) c.args.value ≡ Err c.in_err-found.field-0.0 = search rules in
     rw (p.1, p.2) (refused _ c.args.tables.now _ _ refl (judge_is c.args.tables.now _ c.in_ok-family.ensures.0 ∙ e))
 

@@ -21,13 +21,13 @@ listed-requires c = c.in_ok-family.ensures.1
 
 pub returns-in_err-family : goal.returns-in_err-family
 returns-in_err-family c =
-    let p = err_from_is_err_and c.from-residual.result c.from-residual.ensures.1 in
+    let p = err_from_is_err_and c.from_residual.result c.from_residual.ensures.1 in
     rw (p.1, p.2) (refused _ c.args.tables.now _ _ refl (never_opened c.args.tables.now _ _ c.in_err-family.ensures))
 
 pub returns-in_err-series : goal.returns-in_err-series
 unfolding judging.judge_call
 returns-in_err-series c =
-    let p = err_from_is_err_and c.from-residual-in_err-series.result c.from-residual-in_err-series.ensures.1 in
+    let p = err_from_is_err_and c.from_residual-in_err-series.result c.from_residual-in_err-series.ensures.1 in
     let e : judging.judge_list (model_of c.args.tables.now) (numbers c.args.kind c.args.month c.args.strike) c.args.first (post (model_of c.args.tables.now) (list (numbers c.args.kind c.args.month c.args.strike) c.args.first) unpriced)
     ≡ Err c.in_err-series.field-0.0 = search rules in
     rw (p.1, p.2) (refused _ c.args.tables.now _ _ refl (judge_is c.args.tables.now _ c.in_ok-family.ensures.0 ∙ e))
@@ -43,9 +43,9 @@ returns c =
     let x = numbers c.args.kind c.args.month c.args.strike in
     let v = c.args.first in
     let e : judging.judge_list (model_of t) x v (post (model_of t) (list x v) unpriced) ≡ Ok tt = judged c in
-    let k : c.series-key.result ≡ key_of x = c.series-key.ensures.value ∙ c.in_ok-series.ensures.1 in
+    let k : c.series_key.result ≡ key_of x = c.series_key.ensures.value ∙ c.in_ok-series.ensures.1 in
     let π : ListPassed (model_of t) x v (post (model_of t) (list x v) unpriced) = passed (model_of t) (list x v) unpriced 0 _ e in
-    let place : place_for c.series-key.result (rows_of t.series) (room_of t.series) ≡ true
+    let place : place_for c.series_key.result (rows_of t.series) (room_of t.series) ≡ true
     = rw k (ap (λ (b : Bool). is_some (lookup (rows_of t.series) (key_of x)) || b) (sym (listed_fits t x v unpriced π.fresh) ∙ π.room) ∙ or_true _) in
     let rows : rows_of c.put.new.self ≡ put (key_of x) (record { value = v; state = Trading }) (rows_of t.series) = c.put.ensures.rows ∙ rw (place, k, to_z-of_z w32 v c.ranges.first) refl in
     accepted _ t _ (judge_is t _ c.in_ok-family.ensures.0 ∙ e)

@@ -1,4 +1,4 @@
-use Rattle.std.proofs.Common.{◌≡◌, ℕ, Bool, true, ◌||◌, ltb, length, Ok, Err, sym, refl, ap, ◌∙◌, w32, SFits, to_z, of_z, rules}
+use Rattle.std.proofs.Common.{◌≡◌, ℕ, Bool, true, ◌||◌, ltb, length, Ok, Err, refl, ap, ◌∙◌, w32, SFits, to_z, of_z, rules}
 use Rattle.std.proofs.lemmas.Int.{to_z-of_z}
 use Rattle.terms.specs.declared.family.Family.{Family}
 use Rattle.terms.specs.Families.{family_number}
@@ -22,11 +22,11 @@ pub returns-in-Err-entered : goal.returns-in-Err-entered
 unfolding judging.judge_call
 returns-in-Err-entered c =
     let e : judging.judge_enter (model_of c.args.tables.now) c.args.month (family_number c.args.fixing.family) c.args.fixing.price ≡ Err c.in-Err-entered.refusal
-    = rw (c.family.ensures, c.final-price.ensures.value) at c.in-Err-entered.ensures in
-    (refused _ c.args.tables.now _ _ refl (judge_is c.args.tables.now _ c.in-default.ensures.0 ∙ e), refl)
+    = rw (c.family.ensures, c.final_price.ensures.value) at c.in-Err-entered.ensures in
+    (refused _ c.args.tables.now _ _ refl (judge_is c.args.tables.now _ c.in_default.ensures.0 ∙ e), refl)
 
 judged : (c : goal.After-put) → judging.judge_enter (model_of c.args.tables.now) c.args.month (family_number c.args.fixing.family) c.args.fixing.price ≡ Ok tt
-judged c = rw (c.family.ensures, c.final-price.ensures.value) at c.in-Ok.ensures.0
+judged c = rw (c.family.ensures, c.final_price.ensures.value) at c.in-Ok.ensures.0
 
 pub returns-in-Ok : goal.returns-in-Ok
 unfolding judging.judge_call post change
@@ -42,7 +42,7 @@ returns-in-Ok c =
     let x : c.spend-price.result.1 ≡ c.args.fixing.price = ap (λ (q : Family × ℕ). q.1) c.spend-price.ensures.value in
     let rows : rows_of c.put.new.self ≡ put (future_key m) (record { value = value_at (model_of t) (future_key m); state = Fixed c.args.fixing.price }) (rows_of t.series)
     = c.put.ensures.rows ∙ rw (place, f.has_key, v, x) refl in
-    accepted _ t _ (judge_is t _ c.in-default.ensures.0 ∙ e)
+    accepted _ t _ (judge_is t _ c.in_default.ensures.0 ∙ e)
     (λ i. record {
       family = t.family;
       spaces = record { accounts = room_of t.accounts; series = c.put.ensures.room i; positions = room_of t.positions };

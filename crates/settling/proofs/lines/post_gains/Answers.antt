@@ -1,16 +1,15 @@
-use Rattle.std.proofs.Common.{◌≡◌, ◌+◌, drop, sym, ap, ◌∙◌, subst, arith, w64, SFits, rules}
+use Rattle.std.proofs.Common.{◌+◌, drop, sym, ap, ◌∙◌, subst, arith, w64, SFits, rules}
 use Rattle.std.proofs.lemmas.Int.{to_z-of_z}
 use Rattle.std.specs.List.{zip}
 use Rattle.registers.specs.Rows.{Rows}
 use Rattle.registers.specs.Held.{rows_of}
 use Rattle.positions.specs.declared.position.Position.{Position}
-use Rattle.ledger.specs.declared.rows.Account.{Account}
 use Rattle.settling.specs.Payments.{gains, Ready, pay_all}
 use Rattle.settling.proofs.Turns.{none, over, ready_next, pay_next}
 use Rattle.settling.proofs.lines.post_gains.Goals as goal
 
-pub post-line-requires : goal.post-line-requires
-post-line-requires c =
+pub post_line-requires : goal.post_line-requires
+post_line-requires c =
     let f : SFits w64 c.of.result = search rules in
     (ready_next (gains c.args.gain) c.args.keys.now c.args.positions.now c.requires.even c.loop-i.i none _ (omega arith)
     (to_z-of_z w64 _ f ∙ c.of.ensures) (rows_of c.loop-i.accounts) c.loop-i.invariant.1).0
@@ -23,9 +22,9 @@ loop-i-preserved c =
     let vs = c.args.positions.now in
     let e = to_z-of_z w64 _ f ∙ c.of.ensures in
     let left = drop (c.loop-i.i + 1) (zip ks vs) in (
-      ap (pay_all g left) c.post-line.ensures.rows ∙ pay_next g ks vs c.requires.even c.loop-i.i none _ (omega arith) e (rows_of c.loop-i.accounts) ∙ c.loop-i.invariant.0,
-      subst (Ready g left) (sym c.post-line.ensures.rows) (ready_next g ks vs c.requires.even c.loop-i.i none _ (omega arith) e (rows_of c.loop-i.accounts) c.loop-i.invariant.1).1,
-      c.post-line.ensures.room ∙ c.loop-i.invariant.2,
+      ap (pay_all g left) c.post_line.ensures.rows ∙ pay_next g ks vs c.requires.even c.loop-i.i none _ (omega arith) e (rows_of c.loop-i.accounts) ∙ c.loop-i.invariant.0,
+      subst (Ready g left) (sym c.post_line.ensures.rows) (ready_next g ks vs c.requires.even c.loop-i.i none _ (omega arith) e (rows_of c.loop-i.accounts) c.loop-i.invariant.1).1,
+      c.post_line.ensures.room ∙ c.loop-i.invariant.2,
     )
 
 pub returns : goal.returns

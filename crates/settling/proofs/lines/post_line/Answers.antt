@@ -1,4 +1,4 @@
-use Rattle.std.proofs.Common.{◌≡◌, Some, sym, ap, ◌∙◌, w64, SFits, rules}
+use Rattle.std.proofs.Common.{◌≡◌, Some, w64, SFits, rules}
 use Rattle.registers.specs.Rows.{lookup}
 use Rattle.registers.specs.Held.{rows_of}
 use Rattle.ledger.specs.Numbers.{account_of_key}

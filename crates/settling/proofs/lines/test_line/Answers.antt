@@ -7,17 +7,17 @@ use Rattle.tables.proofs.Following.{passes, fails}
 use Rattle.settling.proofs.Balances.{cannot, can}
 use Rattle.settling.proofs.lines.test_line.Goals as goal
 
-pub returns-in-default : goal.returns-in-default
+pub returns-in_default : goal.returns-in_default
 unfolding judging.need
-returns-in-default c = search rules
+returns-in_default c = search rules
 
-pub returns-in-default-paid : goal.returns-in-default-paid
-returns-in-default-paid c =
+pub returns-in_default-paid : goal.returns-in_default-paid
+returns-in_default-paid c =
     let rows = rows_of c.args.accounts.now in
     let f : SFits w64 c.in-Some.account.cash = search rules in
     let l : lookup rows (account_of_key c.args.key) ≡ Some c.in-Some.account = search rules in
     ap Err c.about-refusal.ensures ∙ search rules
-    ∙ sym (fails _ _ _ (cannot rows (account_of_key c.args.key) c.args.amount c.in-Some.account f c.ranges.amount l c.in-default-paid.ensures))
+    ∙ sym (fails _ _ _ (cannot rows (account_of_key c.args.key) c.args.amount c.in-Some.account f c.ranges.amount l c.in_default-paid.ensures))
 
 pub returns : goal.returns
 returns c =

@@ -1,4 +1,4 @@
-use Rattle.std.proofs.Common.{◌≡◌, ℕ, ◌+◌, ◌*◌, ◌<◌, List, length, ℤ, pos, Ok, Err, sym, refl, ap, ◌∙◌, subst, arith, w32, to_z, rules}
+use Rattle.std.proofs.Common.{◌≡◌, ℕ, ◌+◌, ◌*◌, List, ℤ, pos, Ok, Err, sym, refl, ap, ◌∙◌, subst, arith, w32, to_z, rules}
 use Rattle.std.proofs.lemmas.Result.{err_from_is_err_and}
 use Rattle.std.proofs.lemmas.Int.{ints}
 use Rattle.std.specs.List.{zip, between}
@@ -24,26 +24,26 @@ lent r s from to ks vs e d h =
     ∙ ap (λ (xs : List Position). zip (between from to (keys_in (rows_of r))) (between from to xs)) d
     ∙ series_rows s from to (rows_of r) (rising r) h
 
-pub returns-in_err-test-gains : goal.returns-in_err-test-gains
-returns-in_err-test-gains c =
+pub returns-in_err-test_gains : goal.returns-in_err-test_gains
+returns-in_err-test_gains c =
     let t = c.args.tables.now in
     let rows = lent t.positions c.args.future c.stretch-from.result.from c.stretch-from.result.to _ _ c.keys.ensures.value c.contents.ensures.value c.stretch-from.ensures.places in
-    let p = err_from_is_err_and c.from-residual.result c.from-residual.ensures.1 in
+    let p = err_from_is_err_and c.from_residual.result c.from_residual.ensures.1 in
     let e = p.1 ∙ ap Err p.2 in
     record {
-      answer = e ∙ c.in_err-test-gains.ensures ∙ ap (λ (rs : Rows Position). tested (gains c.args.gain) rs (rows_of t.accounts)) rows;
+      answer = e ∙ c.in_err-test_gains.ensures ∙ ap (λ (rs : Rows Position). tested (gains c.args.gain) rs (rows_of t.accounts)) rows;
       book = rw e refl;
     }
 
-pub post-gains-requires : goal.post-gains-requires
-post-gains-requires c =
+pub post_gains-requires : goal.post_gains-requires
+post_gains-requires c =
     let t = c.args.tables.now in
     let f = gains c.args.gain in
     let s = c.args.future in
     let cs = rows_of t.accounts in
     let ps = rows_of t.positions in
     let rows = lent t.positions s c.stretch-from.result.from c.stretch-from.result.to _ _ c.keys.ensures.value c.contents.ensures.value c.stretch-from.ensures.places in
-    let good : tested f (in_series s ps) cs ≡ Ok tt = ap (λ (rs : Rows Position). tested f rs cs) (sym rows) ∙ sym c.in_ok-test-gains.ensures in
+    let good : tested f (in_series s ps) cs ≡ Ok tt = ap (λ (rs : Rows Position). tested f rs cs) (sym rows) ∙ sym c.in_ok-test_gains.ensures in
     record {
       even = search rules;
       ready = subst (λ (rs : Rows Position). Ready f rs cs) (sym rows) (ready f s 0 (in_series s ps) cs (in_order s ps (rising t.positions)) (all_in s ps) (all_afforded f (in_series s ps) cs good));
@@ -57,13 +57,13 @@ returns c =
     let cs = rows_of t.accounts in
     let rows = lent t.positions s c.stretch-from.result.from c.stretch-from.result.to _ _ c.keys.ensures.value c.contents.ensures.value c.stretch-from.ensures.places in
     let v : to_z w32 c.hundredths.result ≡ pos c.args.mark.hundredths = let m = c.args.mark.most in omega (arith, ints) in
-    let paid = c.post-gains.ensures.rows ∙ ap (λ (rs : Rows Position). pay_all f rs cs) rows in
-    let set = c.set-value.ensures.rows ∙ ap (λ (y : ℤ). change unlisted (valued y) s (rows_of t.series)) v in
+    let paid = c.post_gains.ensures.rows ∙ ap (λ (rs : Rows Position). pay_all f rs cs) rows in
+    let set = c.set_value.ensures.rows ∙ ap (λ (y : ℤ). change unlisted (valued y) s (rows_of t.series)) v in
     record {
-      answer = c.in_ok-test-gains.ensures ∙ ap (λ (rs : Rows Position). tested f rs cs) rows;
+      answer = c.in_ok-test_gains.ensures ∙ ap (λ (rs : Rows Position). tested f rs cs) rows;
       book = λ i. record {
         family = t.family;
-        spaces = record { accounts = c.post-gains.ensures.room i; series = c.set-value.ensures.room i; positions = t.positions.room };
+        spaces = record { accounts = c.post_gains.ensures.room i; series = c.set_value.ensures.room i; positions = t.positions.room };
         accounts = paid i;
         series = set i;
         positions = rows_of t.positions;

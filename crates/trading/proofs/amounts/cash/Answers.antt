@@ -13,7 +13,7 @@ returns-in-Future c =
     let f = c.args.family in
     let d = c.args.deal.now in
     let r = c.cents.result in
-    let n = c.traded-units-units.result in
+    let n = c.traded_units-units.result in
     let v = c.args.value in
     let bound = c.cents.ensures.bound in
     let fn : SFits w64 n = search rules in
@@ -28,19 +28,19 @@ returns-in-Future c =
     record {
       value = er
           ∙ c.cents.ensures.value
-          ∙ ap₂ (amount f) (to_z-of_z w64 n fn ∙ c.traded-units-units.ensures.value) x
+          ∙ ap₂ (amount f) (to_z-of_z w64 n fn ∙ c.traded_units-units.ensures.value) x
           ∙ sym (cond-true _ _ _ future);
       bound = rw er bound;
     }
 
-pub returns-in-default : goal.returns-in-default
+pub returns-in_default : goal.returns-in_default
 unfolding cash_of
-returns-in-default c =
+returns-in_default c =
     let f = c.args.family in
     let d = c.args.deal.now in
-    let r = c.cents-in-default.result in
-    let n = c.traded-units-units.result in
-    let bound = c.cents-in-default.ensures.bound in
+    let r = c.cents-in_default.result in
+    let n = c.traded_units-units.result in
+    let bound = c.cents-in_default.ensures.bound in
     let fn : SFits w64 n = search rules in
     let hp = c.from-price.ensures in
     let hh = c.hundredths.ensures.value in
@@ -48,10 +48,10 @@ returns-in-default c =
     let er : to_z w64 (of_z w64 (pos 0 -ℤ to_z w64 (of_z w64 r))) ≡ neg_ℤ r = omega (arith, ints) in
     let small : nat_abs (neg_ℤ r) ≤ 2 ^ 56 = omega (arith, ints) in
     let x : to_z w64 (of_z w64 c.from-price.result) ≡ pos d.price.hundredths = omega (arith, ints) in
-    let option = ap is_future (kind_of_lem d.series.kind ∙ sym c.kind.ensures) ∙ not_future c.kind.result c.in-default.not-Future in
+    let option = ap is_future (kind_of_lem d.series.kind ∙ sym c.kind.ensures) ∙ not_future c.kind.result c.in_default.not-Future in
     record {
       value = er
-          ∙ ap neg_ℤ (c.cents-in-default.ensures.value ∙ ap₂ (amount f) (to_z-of_z w64 n fn ∙ c.traded-units-units.ensures.value) x)
+          ∙ ap neg_ℤ (c.cents-in_default.ensures.value ∙ ap₂ (amount f) (to_z-of_z w64 n fn ∙ c.traded_units-units.ensures.value) x)
           ∙ sym (cond-false _ _ _ option);
       bound = rw er small;
     }

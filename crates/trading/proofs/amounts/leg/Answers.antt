@@ -6,18 +6,18 @@ use Rattle.tables.proofs.Following.{passes, fails}
 use Rattle.trading.proofs.Reading.{took, left_out}
 use Rattle.trading.proofs.amounts.leg.Goals as goal
 
-pub returns-in-default : goal.returns-in-default
-returns-in-default c = fails _ _ _ (and_left _ _ (ap is_some c.in-default.is)) ∙ ap Err (sym c.about.ensures)
+pub returns-in_default : goal.returns-in_default
+returns-in_default c = fails _ _ _ (and_left _ _ (ap is_some c.in_default.is)) ∙ ap Err (sym c.about.ensures)
 
-pub returns-in-default-paid : goal.returns-in-default-paid
-returns-in-default-paid c =
+pub returns-in_default-paid : goal.returns-in_default-paid
+returns-in_default-paid c =
     let cash = c.args.before.cash in
     let x = c.args.amount in
     let fc : SFits w64 cash = search rules in
     let fx : SFits w64 x = c.ranges.amount in
     let e : to_z w64 (of_z w64 cash) +ℤ to_z w64 (of_z w64 x) ≡ cash +ℤ x = omega (arith, ints) in
-    let out = left_out _ _ c.in-default-paid.ensures in
-    fails _ _ _ (and_right _ _ (ap balance_in (sym e) ∙ out)) ∙ ap Err (sym c.about-in-default-paid.ensures)
+    let out = left_out _ _ c.in_default-paid.ensures in
+    fails _ _ _ (and_right _ _ (ap balance_in (sym e) ∙ out)) ∙ ap Err (sym c.about-in_default-paid.ensures)
 
 pub returns : goal.returns
 returns c =

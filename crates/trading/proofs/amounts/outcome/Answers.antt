@@ -50,7 +50,7 @@ returns-in_err-buyer c p hb hs =
     let sb : c.side-buying.result ≡ _ = c.side-buying.ensures ∙ ap (λ (e : Account). trade_side t t.buyer e.kind) be in
     let xb : to_z w64 (of_z w64 (to_z w64 (of_z w64 r) -ℤ to_z w64 c.args.fees.0)) ≡ cash_in b t -ℤ fee_on b t p t.buyer = omega (arith, ints) in
     let tb = buyer_test b t p lb ls κ o m.buyer q.buyer _ c.requires.moves.buyer be xb in
-    let e = err_from_is_err_and c.from-residual.result c.from-residual.ensures.1 in
+    let e = err_from_is_err_and c.from_residual.result c.from_residual.ensures.1 in
     let h = alone _ _ _ c.in_err-buyer.ensures in
     rw (e.1, e.2) (fails _ _ _ (tb ∙ h.0) ∙ ap Err (sym (h.1 ∙ ap (λ (s : Side). about AmountOutOfRange s.account) sb)))
 
@@ -82,16 +82,16 @@ returns-in_err-seller c p hb hs =
     let xs : to_z w64 (of_z w64 (to_z w64 (of_z w64 (pos 0 -ℤ to_z w64 (of_z w64 r))) -ℤ to_z w64 c.args.fees.1)) ≡ neg_ℤ (cash_in b t) -ℤ fee_on b t p t.seller = omega (arith, ints) in
     let ts = seller_test b t p lb ls κ o m.seller q.seller _ c.requires.moves.seller se xs in
     let buys = c.in_ok-buyer.ensures in
-    let e = err_from_is_err_and c.from-residual-in_err-seller.result c.from-residual-in_err-seller.ensures.1 in
+    let e = err_from_is_err_and c.from_residual-in_err-seller.result c.from_residual-in_err-seller.ensures.1 in
     let h = alone _ _ _ c.in_err-seller.ensures in
     rw (e.1, e.2)
     (passes _ _ _ (tb ∙ (need_so _ _ _ buys.0).0)
     ∙ fails _ _ _ (ts ∙ h.0)
     ∙ ap Err (sym (h.1 ∙ ap (λ (s : Side). about AmountOutOfRange s.account) ss)))
 
-pub returns-in-default : goal.returns-in-default
+pub returns-in_default : goal.returns-in_default
 unfolding afforded
-returns-in-default c p hb hs =
+returns-in_default c p hb hs =
     let b = model_of c.args.tables.now in
     let d = c.args.deal.now in
     let t = trade_in d in
@@ -122,7 +122,7 @@ returns-in-default c p hb hs =
     let xe : to_z w64 (of_z w64 b.exchange) +ℤ to_z w64 (c.args.fees.0 + c.args.fees.1) ≡ b.exchange +ℤ (fee_on b t p t.buyer +ℤ fee_on b t p t.seller) = omega (arith, ints) in
     passes _ _ _ (tb ∙ (need_so _ _ _ buys.0).0)
     ∙ passes _ _ _ (ts ∙ (need_so _ _ _ sells.0).0)
-    ∙ fails _ _ _ (ap balance_in (exchange_is b t p ∙ sym xe) ∙ left_out _ _ c.in-default.ensures)
+    ∙ fails _ _ _ (ap balance_in (exchange_is b t p ∙ sym xe) ∙ left_out _ _ c.in_default.ensures)
     ∙ ap Err (sym c.plain.ensures)
 
 pub returns : goal.returns

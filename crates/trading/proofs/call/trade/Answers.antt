@@ -11,7 +11,7 @@ use Rattle.trading.proofs.call.trade.Goals as goal
 
 pub returns-in_err-outcome : goal.returns-in_err-outcome
 returns-in_err-outcome g c =
-    let r = err_from_is_err_and c.from-residual.result c.from-residual.ensures.1 in
+    let r = err_from_is_err_and c.from_residual.result c.from_residual.ensures.1 in
     let u = c.args.tables.now in
     let s = c.args.tariff.now in
     let e = event_of (g.T.Tariff.price s) (trade_of c.args.trade) in

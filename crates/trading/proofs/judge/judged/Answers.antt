@@ -15,13 +15,13 @@ use Rattle.trading.proofs.judge.judged.Goals as goal
 
 pub returns-in_err-family : goal.returns-in_err-family
 returns-in_err-family g c =
-    let e = err_from_is_err_and c.from-residual.result c.from-residual.ensures.1 in
+    let e = err_from_is_err_and c.from_residual.result c.from_residual.ensures.1 in
     let p = g.T.Tariff.price c.args.tariff.now in
     rw (e.1, e.2) (never_opened c.args.tables.now (event_of p (trade_of c.args.trade)) _ c.in_err-family.ensures)
 
 pub returns-in_err-deal : goal.returns-in_err-deal
 returns-in_err-deal g c =
-    let e = err_from_is_err_and c.from-residual-in_err-deal.result c.from-residual-in_err-deal.ensures.1 in
+    let e = err_from_is_err_and c.from_residual-in_err-deal.result c.from_residual-in_err-deal.ensures.1 in
     let u = c.args.tables.now in
     let t = trade_of c.args.trade in
     let p = g.T.Tariff.price c.args.tariff.now in
@@ -30,7 +30,7 @@ returns-in_err-deal g c =
 
 pub returns-in_err-parties : goal.returns-in_err-parties
 returns-in_err-parties g c =
-    let e = err_from_is_err_and c.from-residual-in_err-parties.result c.from-residual-in_err-parties.ensures.1 in
+    let e = err_from_is_err_and c.from_residual-in_err-parties.result c.from_residual-in_err-parties.ensures.1 in
     let u = c.args.tables.now in
     let p = g.T.Tariff.price c.args.tariff.now in
     let f = c.in_ok-family.ensures in
@@ -56,7 +56,7 @@ allowed-requires g c =
 
 pub returns-in_err-allowed : goal.returns-in_err-allowed
 returns-in_err-allowed g c =
-    let e = err_from_is_err_and c.from-residual-in_err-allowed.result c.from-residual-in_err-allowed.ensures.1 in
+    let e = err_from_is_err_and c.from_residual-in_err-allowed.result c.from_residual-in_err-allowed.ensures.1 in
     let u = c.args.tables.now in
     let p = g.T.Tariff.price c.args.tariff.now in
     let f = c.in_ok-family.ensures in

@@ -18,7 +18,7 @@ returns-in_err-fees g c =
     let p = g.T.Tariff.price c.args.tariff.now in
     let sb : c.side-buyer.result ≡ _ = c.side-buyer.ensures ∙ ap (λ (x : Parties). trade_side t t.buyer x.buyer.kind) c.requires.parties in
     let ss : c.side-seller.result ≡ _ = c.side-seller.ensures ∙ ap (λ (x : Parties). trade_side t t.seller x.seller.kind) c.requires.parties in
-    let e = err_from_is_err_and c.from-residual.result c.from-residual.ensures.1 in
+    let e = err_from_is_err_and c.from_residual.result c.from_residual.ensures.1 in
     let h = one_unrated p c.side-buyer.result c.side-seller.result _ c.in_err-fees.ensures.answer in
     rw (e.1, e.2) (also_err _ _ _ (ap₂ (λ (x y : Side). rated_all p (x ∷ y ∷ [])) (sym sb) (sym ss) ∙ h))
 

@@ -27,8 +27,8 @@ returns c =
     let n : to_z w32 d.count ≡ pos d.count = omega (arith, ints) in
     let m : to_z w32 (of_z w32 (pos 0 -ℤ to_z w32 d.count)) ≡ neg_ℤ (pos d.count) = omega (arith, ints) in
     record {
-      buyer = move_is b t d.buyer _ (bought b t) _ c.position-move.ensures
+      buyer = move_is b t d.buyer _ (bought b t) _ c.position_move.ensures
           (changed _ _ _ _ _ _ (position_at b (key_of t.series) d.buyer) (ap (λ (q : Parties). q.buyer.kind) c.requires) (sym (size_of_lem d.size)) n);
-      seller = move_is b t d.seller _ (sold b t) _ c.position-move-2.ensures
+      seller = move_is b t d.seller _ (sold b t) _ c.position_move-2.ensures
           (changed _ _ _ _ _ _ (position_at b (key_of t.series) d.seller) (ap (λ (q : Parties). q.seller.kind) c.requires) (sym (size_of_lem d.size)) m);
     }

@@ -6,13 +6,13 @@ use Rattle.trading.proofs.limits.traded_delta.Goals as goal
 
 pub returns : goal.returns
 returns c =
-    let u = c.traded-units.result in
-    let d = c.delta-at.result in
+    let u = c.traded_units.result in
+    let d = c.delta_at.result in
     let fd : SFits w32 d = search rules in
-    let hu : nat_abs u ≤ 2 ^ 34 = omega (arith, c.traded-units.ensures.bound) in
+    let hu : nat_abs u ≤ 2 ^ 34 = omega (arith, c.traded_units.ensures.bound) in
     let w = weighed u d c.from.result c.from-2.result hu fd c.from.ensures c.from-2.ensures in
-    let e = c.delta-at.ensures ∙ ap (delta_at (model_of c.args.tables.now)) c.series-key.ensures.value in
+    let e = c.delta_at.ensures ∙ ap (delta_at (model_of c.args.tables.now)) c.series_key.ensures.value in
     record {
-      value = w.0 ∙ ap₂ weight c.traded-units.ensures.value e;
+      value = w.0 ∙ ap₂ weight c.traded_units.ensures.value e;
       bound = rw w.0 (omega (arith, w.1));
     }

@@ -13,7 +13,7 @@ returns c =
     let p = c.args.position in
     let rs = rows_of c.args.positions.now in
     let room = room_of c.args.positions.now in
-    let there : placed k p rs ≡ put k p rs = cond-false _ _ _ (sym c.is-flat.ensures ∙ c.if-is-flat.false) in
+    let there : placed k p rs ≡ put k p rs = cond-false _ _ _ (sym c.is_flat.ensures ∙ c.if-is_flat.false) in
     let space : length (put k p rs) ≤ room = subst (λ (x : Rows Position). length x ≤ room) there c.requires in
     record {
       rows = c.put.ensures.rows ∙ cond-true _ _ _ (place_for_lem k p rs room space) ∙ sym there;

@@ -14,18 +14,18 @@ place-requires c =
     let s = c.args.seller.now in
     let rs = rows_of c.args.positions.now in
     let later = placed b.key b.position rs in
-    let gone : placed s.key s.position later ≡ without s.key later = cond-true _ _ _ (sym c.is-flat.ensures ∙ c.if-is-flat.true) in
+    let gone : placed s.key s.position later ≡ without s.key later = cond-true _ _ _ (sym c.is_flat.ensures ∙ c.if-is_flat.true) in
     let turned = gone ∙ goes_first s.key b.key b.position rs (rising c.args.positions.now) c.requires.apart ∙ ap (placed b.key b.position) (sym c.take.ensures.rows) in
     let n = ap length turned in
     omega (arith, c.requires.space, c.take.ensures.room)
 
-pub returns-then-is-flat : goal.returns-then-is-flat
-returns-then-is-flat c =
+pub returns-then-is_flat : goal.returns-then-is_flat
+returns-then-is_flat c =
     let b = c.args.buyer.now in
     let s = c.args.seller.now in
     let rs = rows_of c.args.positions.now in
     let later = placed b.key b.position rs in
-    let gone : placed s.key s.position later ≡ without s.key later = cond-true _ _ _ (sym c.is-flat.ensures ∙ c.if-is-flat.true) in
+    let gone : placed s.key s.position later ≡ without s.key later = cond-true _ _ _ (sym c.is_flat.ensures ∙ c.if-is_flat.true) in
     record {
       rows = c.place.ensures.rows
           ∙ ap (placed b.key b.position) c.take.ensures.rows
@@ -39,7 +39,7 @@ place-requires-2 c =
     let b = c.args.buyer.now in
     let s = c.args.seller.now in
     let later = placed b.key b.position (rows_of c.args.positions.now) in
-    let there : placed s.key s.position later ≡ put s.key s.position later = cond-false _ _ _ (sym c.is-flat.ensures ∙ c.if-is-flat.false) in
+    let there : placed s.key s.position later ≡ put s.key s.position later = cond-false _ _ _ (sym c.is_flat.ensures ∙ c.if-is_flat.false) in
     let n = ap length there in
     let longer = put_longer s.key s.position later in
     omega (arith, c.requires.space)
@@ -50,7 +50,7 @@ returns c =
     let s = c.args.seller.now in
     let room = room_of c.args.positions.now in
     let later = placed b.key b.position (rows_of c.args.positions.now) in
-    let there : placed s.key s.position later ≡ put s.key s.position later = cond-false _ _ _ (sym c.is-flat.ensures ∙ c.if-is-flat.false) in
+    let there : placed s.key s.position later ≡ put s.key s.position later = cond-false _ _ _ (sym c.is_flat.ensures ∙ c.if-is_flat.false) in
     let space : length (put s.key s.position later) ≤ room = subst (λ (x : Rows Position). length x ≤ room) there c.requires.space in
     let first = c.place-2.ensures.rows in
     let fits = ap₂ (λ (x : Rows Position) (n : ℕ). place_for s.key x n) first c.place-2.ensures.room ∙ place_for_lem s.key s.position later room space in

@@ -1,4 +1,4 @@
-use Rattle.std.proofs.Common.{◌≡◌, ◌≤◌, ℤ, pos, ◌-ℤ◌, ◌*ℤ◌, nat_abs, sym, ap, ◌∙◌, subst, arith, w64, SFits, to_z, of_z}
+use Rattle.std.proofs.Common.{◌≡◌, ◌≤◌, ℤ, pos, ◌-ℤ◌, ◌*ℤ◌, nat_abs, sym, ap, ◌∙◌, subst, arith, w64, to_z, of_z}
 use Rattle.std.proofs.lemmas.Int.{ints, to_z-of_z}
 use Rattle.terms.specs.Families.{cents_of}
 use Rattle.settling.proofs.Products.{product_within, product_fits, cents_most}
@@ -23,7 +23,7 @@ invariant_of-result c =
     let y = move c.from.result c.from-2.result in
     let h : nat_abs x ≤ 20 = omega (arith, ints) in
     let k : nat_abs y ≤ 20000000 = omega (arith, ints) in
-    (subst (λ (z : ℤ). nat_abs z ≤ 400000000) (sym (to_z-of_z w64 _ (product_fits x y 20 20000000 h k (omega arith)))) (product_within x y 20 20000000 h k), tt)
+    record { small = subst (λ (z : ℤ). nat_abs z ≤ 400000000) (sym (to_z-of_z w64 _ (product_fits x y 20 20000000 h k (omega arith)))) (product_within x y 20 20000000 h k) }
 
 pub returns : goal.returns
 returns c =

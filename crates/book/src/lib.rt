@@ -1,5 +1,6 @@
 //! The book: calls that follow the rules, on a book that some list of events leads to.
 #![tactic(auto)]
+
 mod calls;
 mod reading;
 mod sealed;

@@ -1,4 +1,5 @@
-//! Registers, run: a crate of its own, so that the registers are proved once.
+//! A register of thousands of rows, run.
 #![tactic(auto)]
+
 #[cfg(test)]
 mod tests;

@@ -1,12 +1,12 @@
 -- How the words of a line, read one after the other, make a command.
-use Rattle.std.proofs.Common.{◌≡◌, ℕ, List, [], ◌∷◌, ◌++◌, IfOk, Some, None, Ok, Err, vec_items, codes, Option, Result, Vec, sym, refl, ap, ◌∙◌, subst}
+use Rattle.std.proofs.Common.{◌≡◌, ℕ, List, [], ◌∷◌, ◌++◌, IfOk, Some, None, Ok, Err, vec_items, codes, Option, Result, Vec, sym, refl, ◌∙◌, subst}
 use Rattle.std.specs.declared.alloc.Global.{Global}
 use Rattle.posbook.specs.declared.unreadable.Unreadable.{Unreadable}
 use Rattle.script.specs.Numbers.{Number, Hundredths}
 use Rattle.posbook.specs.declared.command.Command.{Command}
 use Rattle.posbook.specs.declared.command.Command.TheVariants.{Fixing, Strikes}
 use Rattle.posbook.specs.Lines.{Next, Words, AllWords}
-use Rattle.posbook.specs.Commands.{Prices, name_of, Behind, Says}
+use Rattle.posbook.specs.Commands.{Prices, Behind, Says}
 
 -- one word more at the end
 pub words_more : (line : List ℕ) (ws : List (List ℕ)) (w : List ℕ) (a b c : ℕ) → Words line a ws b → Next line b (Some w) c → Words line a (ws ++ w ∷ []) c

@@ -1,4 +1,4 @@
-use Rattle.std.proofs.Common.{◌≡◌, codes, refl, ap}
+use Rattle.std.proofs.Common.{codes, refl, ap}
 use Rattle.posbook.proofs.Saying.{says_made}
 use Rattle.posbook.proofs.command.read_command.Goals as goal
 

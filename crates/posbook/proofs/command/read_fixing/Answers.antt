@@ -1,4 +1,4 @@
-use Rattle.std.proofs.Common.{◌≡◌, List, [], ◌∷◌, ◌++◌, Some, None, sym, refl, ap, ◌∙◌}
+use Rattle.std.proofs.Common.{[], ◌∷◌, ◌++◌, Some, None, sym, refl, ap, ◌∙◌}
 use Rattle.posbook.proofs.Saying.{at_line, words_at_line, fixing_behind, words_more, prices_more}
 use Rattle.posbook.proofs.command.read_fixing.Goals as goal
 

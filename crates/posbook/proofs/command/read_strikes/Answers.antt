@@ -1,4 +1,4 @@
-use Rattle.std.proofs.Common.{◌≡◌, Some, None, ap, ◌∙◌}
+use Rattle.std.proofs.Common.{Some, None, ap, ◌∙◌}
 use Rattle.posbook.proofs.Saying.{at_line, strikes_behind}
 use Rattle.posbook.proofs.command.read_strikes.Goals as goal
 

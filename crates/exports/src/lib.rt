@@ -1,5 +1,6 @@
 //! The library's calls for programs in C or Rust.
 #![tactic(auto)]
+
 ghost use Rattle.exports.specs.Exports.{Counted};
 
 mod runs;

@@ -1,11 +1,10 @@
 -- The strikes of a stretch as a list, and how it grows by a run of equal steps.
-use Rattle.std.proofs.Common.{◌≡◌, ℕ, zero, suc, ◌+◌, ◌-◌, ◌*◌, ◌/◌, ◌%◌, ◌<◌, ◌≤◌, Bool, true, false, cond, ◌&&◌, eqb, ltb, leb, ◌⊎◌, List, [], ◌∷◌, ◌++◌, length, get_or, fold, filter, sym, refl, ap, ◌∙◌, subst, inl, inr, ⊎_elim, append_assoc, append-nil, add-zero, suc-mul, suc-add, div-add-mod', zero-add, zero-mul, arith, length-append}
-use native.Mathlib.Nat.{zero-mod, add-mod_right}
+use Rattle.std.proofs.Common.{◌≡◌, ℕ, zero, suc, ◌+◌, ◌-◌, ◌*◌, ◌/◌, ◌%◌, ◌<◌, ◌≤◌, Bool, true, false, eqb, ltb, List, [], ◌∷◌, ◌++◌, length, get_or, filter, sym, refl, ap, ◌∙◌, subst, ⊎_elim, append_assoc, append-nil, add-zero, suc-mul, suc-add, div-add-mod', zero-add, zero-mul, arith, length-append}
 use Rattle.std.specs.List.{range_with_len}
 use Rattle.std.proofs.lemmas.List.Elements.{filter-append}
-use Rattle.std.proofs.lemmas.Bool.{le-leb, lt-leb, lt-ltb, ltb-true, eq-eqb, eqb-true, ne_eqb, and_from, and_parts, and_right, cond-true, cond-false, cond_both, both_ways, cases_lt, cases_Bool}
+use Rattle.std.proofs.lemmas.Bool.{lt-ltb, ltb-true, eq-eqb, eqb-true, and_from, and_parts, cond-true, cond-false, cond_both, both_ways, cases_lt, cases_Bool}
 use Rattle.terms.specs.declared.steps.StepBand.{StepBand}
-use Rattle.terms.specs.Steps.{step_in, joined, Listed}
+use Rattle.terms.specs.Steps.{step_in, Listed}
 use Rattle.terms.proofs.Grid as grid
 use Rattle.strikelists.specs.Strikes.{Holds, Between}
 use Rattle.strikelists.specs.Grids.{Grid}

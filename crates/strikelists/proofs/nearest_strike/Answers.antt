@@ -1,4 +1,4 @@
-use Rattle.std.proofs.Common.{◌≡◌, ℕ, List, subst}
+use Rattle.std.proofs.Common.{ℕ, List, subst}
 use Rattle.std.proofs.lemmas.Result.{err_from_is_err_and}
 use Rattle.terms.specs.declared.steps.StepBand.{StepBand}
 use Rattle.terms.specs.Families.{bands_of}
@@ -6,16 +6,16 @@ use Rattle.strikelists.specs.Strikes.{Nearest}
 use Rattle.strikelists.proofs.Words.{one_nearest}
 use Rattle.strikelists.proofs.nearest_strike.Goals as goal
 
-pub returns-in-err-steps : goal.returns-in-err-steps
-returns-in-err-steps c =
-    let p = err_from_is_err_and c.from-residual.result c.from-residual.ensures.1 in
-    record { answer = rw (p.1, p.2) c.in-err-steps.ensures; one = one_nearest }
+pub returns-in_err-steps : goal.returns-in_err-steps
+returns-in_err-steps c =
+    let p = err_from_is_err_and c.from_residual.result c.from_residual.ensures.1 in
+    record { answer = rw (p.1, p.2) c.in_err-steps.ensures; one = one_nearest }
 
 pub returns : goal.returns
 returns c =
-    let q = c.in-ok-steps.ensures in
+    let q = c.in_ok-steps.ensures in
     let near = c.nearest.ensures.near in
-    let a = subst (λ (bands : List StepBand). Nearest bands c.in-ok-steps.level.hundredths c.nearest.result) q.0.2 near in
+    let a = subst (λ (bands : List StepBand). Nearest bands c.in_ok-steps.level.hundredths c.nearest.result) q.0.2 near in
     record {
       answer = (q.0.0, q.0.1, subst (λ (l : ℕ). Nearest (bands_of q.0.0) l c.nearest.result) q.1 a);
       one = one_nearest;

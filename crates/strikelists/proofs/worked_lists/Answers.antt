@@ -1,8 +1,7 @@
-use Rattle.std.proofs.Common.{◌≡◌, ℕ, ◌<◌, ◌≤◌, List, length, get_or, sym, refl, ap, ◌∙◌, inl, inr, ⊎_elim, arith, lit<}
+use Rattle.std.proofs.Common.{◌≡◌, ℕ, List, length, get_or, refl, ap, inl, arith, lit<}
 use Rattle.std.proofs.lemmas.Bool.Decides.{nat_tests}
 use Rattle.terms.specs.declared.family.Family.TheVariants.{HangSeng}
 use Rattle.terms.specs.Families.{bands_of}
-use Rattle.terms.specs.Steps.{Listed}
 use Rattle.strikelists.specs.Strikes.{Nearest, LowEnd, HighEnd, StrikeList}
 use Rattle.strikelists.specs.Runs.{stretch}
 use Rattle.strikelists.proofs.Words.{one_list, stretch_list}

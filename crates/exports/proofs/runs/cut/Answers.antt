@@ -13,8 +13,8 @@ loop-key-preserved c =
     let ks = c.args.keys.now in
     let i = c.loop-key.key-index in
     let a = get_or ks i 0 in
-    let t = c.take-stretch in
-    let b : c.saturating-add.result ≡ min (a + 64) 18446744073709551615 = c.saturating-add.ensures in
+    let t = c.take_stretch in
+    let b : c.saturating_add.result ≡ min (a + 64) 18446744073709551615 = c.saturating_add.ensures in
     let rows = t.ensures.rows ∙ ap (λ (n : ℕ). front a rs ++ rest a n rs) b in
     let count = ap (plus sum) (t.ensures.answer ∙ ap (λ (n : ℕ). length (stretch a n rs)) b) in
     steps cut_by (rows_of c.args.register.now, 0) ks i (rs, sum) (rows_of t.new.self, plus sum t.result) c.loop-key-test.true c.loop-key.invariant (ap₂ (λ (x : Rows ℕ) (y : ℕ). (x, y)) rows count)

@@ -1,7 +1,6 @@
-use Rattle.std.proofs.Common.{◌≡◌, ℕ, take, fold}
-use Rattle.registers.specs.Rows.{Rows}
-use Rattle.registers.specs.Held.{rows_of, room_of}
-use Rattle.exports.specs.Runs.{filled_by, found_by, toggled_by, cut_by}
+use Rattle.std.proofs.Common.{◌≡◌, take, fold}
+use Rattle.registers.specs.Held.{rows_of}
+use Rattle.exports.specs.Runs.{found_by}
 use Rattle.exports.proofs.runs.find.Given as goal
 
 abbrev pub invariant-loop-key : goal.invariant-loop-key

@@ -1,9 +1,8 @@
-use Rattle.std.proofs.Common.{◌≡◌, ℕ, get_or, sym, ap, ◌∙◌, ap₂}
-use Rattle.registers.specs.declared.keyed.Register.{Register}
-use Rattle.registers.specs.Rows.{Rows, without}
+use Rattle.std.proofs.Common.{ℕ, get_or, sym, ap, ◌∙◌, ap₂}
+use Rattle.registers.specs.Rows.{Rows}
 use Rattle.registers.specs.Held.{rows_of, room_of}
 use Rattle.registers.proofs.OneRow.{without_absent}
-use Rattle.exports.specs.Runs.{plus, filled_by, toggled_by}
+use Rattle.exports.specs.Runs.{filled_by, toggled_by}
 use Rattle.exports.proofs.Folds.{steps, ends, taken, missing}
 use Rattle.exports.proofs.runs.toggle.Goals as goal
 use Rattle.exports.proofs.runs.toggle.Goals.{in-Some, in-None}

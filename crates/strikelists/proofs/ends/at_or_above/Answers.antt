@@ -1,11 +1,11 @@
 use Rattle.strikelists.proofs.Neighbours.{ceiling, rises}
 use Rattle.strikelists.proofs.ends.at_or_above.Goals as goal
 
-pub nonzero-rem-over : goal.nonzero-rem-over
-nonzero-rem-over c = rises c.args.steps.now.bands c.args.point c.step-at-step.result c.requires.grid c.step-at-step.ensures
+pub nonzero_rem-over : goal.nonzero_rem-over
+nonzero_rem-over c = rises c.args.steps.now.bands c.args.point c.step_at-step.result c.requires.grid c.step_at-step.ensures
 
 pub returns-else-over-eq0 : goal.returns-else-over-eq0
 returns-else-over-eq0 c =
-    let r = ceiling c.args.steps.now.bands c.args.point c.step-at-step.result
-    c.requires.grid c.step-at-step.ensures c.requires.point.0 c.if-over-eq0.false in
+    let r = ceiling c.args.steps.now.bands c.args.point c.step_at-step.result
+    c.requires.grid c.step_at-step.ensures c.requires.point.0 c.if-over-eq0.false in
     record { above = (r.above, r.near); listed = r.listed; least = r.least }

@@ -1,10 +1,10 @@
 use Rattle.strikelists.proofs.Neighbours.{floor, rises}
 use Rattle.strikelists.proofs.ends.at_or_below.Goals as goal
 
-pub nonzero-rem-result : goal.nonzero-rem-result
-nonzero-rem-result c = rises c.args.steps.now.bands c.args.point c.step-at.result c.requires c.step-at.ensures
+pub nonzero_rem-result : goal.nonzero_rem-result
+nonzero_rem-result c = rises c.args.steps.now.bands c.args.point c.step_at.result c.requires c.step_at.ensures
 
 pub returns : goal.returns
 returns c =
-    let f = floor c.args.steps.now.bands c.args.point c.step-at.result c.requires c.step-at.ensures in
+    let f = floor c.args.steps.now.bands c.args.point c.step_at.result c.requires c.step_at.ensures in
     record { below = f.below; listed = f.listed; greatest = f.greatest }

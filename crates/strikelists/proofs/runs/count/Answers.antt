@@ -1,26 +1,26 @@
 use Rattle.std.proofs.Common.{◌+◌, ◌-◌, ◌/◌, ◌≤◌, arith, rules}
-use Rattle.strikelists.proofs.Walks.{Walked, walked_none, walked_more, walked_all}
+use Rattle.strikelists.proofs.Walks.{walked_none, walked_more, walked_all}
 use Rattle.strikelists.proofs.runs.count.Goals as goal
 
 pub loop-at-init : goal.loop-at-init
 loop-at-init c = walked_none c.args.steps.now.bands c.args.low c.args.high c.requires
 
-pub run-from-run-requires : goal.run-from-run-requires
-run-from-run-requires c =
+pub run_from-run-requires : goal.run_from-run-requires
+run_from-run-requires c =
     record { grid = c.requires.grid; low = c.loop-at.invariant.stands; high = c.requires.to; order = c.loop-at-test.true }
 
-pub overflow-add-count : goal.overflow-add-count
-overflow-add-count c =
+pub overflow_add-count : goal.overflow_add-count
+overflow_add-count c =
     let w = walked_more c.args.steps.now.bands c.args.low c.args.high c.loop-at.at c.loop-at.count
-    c.run-from-run.result.step c.run-from-run.result.end c.requires c.loop-at.invariant c.run-from-run.ensures in
-    let h : c.loop-at.count + (c.run-from-run.result.end - c.loop-at.at) / c.run-from-run.result.step ≤ 200000 =
+    c.run_from-run.result.step c.run_from-run.result.end c.requires c.loop-at.invariant c.run_from-run.ensures in
+    let h : c.loop-at.count + (c.run_from-run.result.end - c.loop-at.at) / c.run_from-run.result.step ≤ 200000 =
     omega (arith, w.few, w.within, c.requires.most) in
     search rules
 
 pub loop-at-preserved : goal.loop-at-preserved
 loop-at-preserved c =
     walked_more c.args.steps.now.bands c.args.low c.args.high c.loop-at.at c.loop-at.count
-    c.run-from-run.result.step c.run-from-run.result.end c.requires c.loop-at.invariant c.run-from-run.ensures
+    c.run_from-run.result.step c.run_from-run.result.end c.requires c.loop-at.invariant c.run_from-run.ensures
 
 pub returns : goal.returns
 returns c =

@@ -1,6 +1,5 @@
-use Rattle.std.proofs.Common.{◌≡◌, ◌+◌, ◌-◌, ◌*◌, ◌/◌, ◌<◌, ◌≤◌, length, take, drop, set, refl, arith, length-set, rules}
+use Rattle.std.proofs.Common.{◌≡◌, ◌+◌, ◌-◌, ◌/◌, ◌<◌, ◌≤◌, length, take, drop, set, arith, length-set, rules}
 use Rattle.std.proofs.lemmas.List.{length-take-le, length-drop}
-use Rattle.strikelists.specs.Runs.{stretch}
 use Rattle.strikelists.proofs.Walks.{walked_none, walked_more, walked_within, walked_some, filled_none, filled_more, filled_all}
 use Rattle.strikelists.proofs.runs.fill.Goals as goal
 
@@ -16,30 +15,30 @@ loop-at-init c =
     omega (arith, c.requires.room, walked_within c.args.steps.now.bands c.args.low c.args.high c.args.low 1 w) in
     (w, filled_none c.args.steps.now.bands c.args.low c.args.high c.args.out.now c.requires.span p)
 
-pub run-from-run-requires : goal.run-from-run-requires
-run-from-run-requires c =
+pub run_from-run-requires : goal.run_from-run-requires
+run_from-run-requires c =
     record { grid = c.requires.span.grid; low = c.loop-at.invariant.0.stands; high = c.requires.span.to; order = c.loop-at-test.true }
 
-pub overflow-add-count : goal.overflow-add-count
-overflow-add-count c =
+pub overflow_add-count : goal.overflow_add-count
+overflow_add-count c =
     let w = walked_more c.args.steps.now.bands c.args.low c.args.high c.loop-at.at c.loop-at.count
-    c.run-from-run.result.step c.run-from-run.result.end c.requires.span c.loop-at.invariant.0 c.run-from-run.ensures in
-    let h : c.loop-at.count + (c.run-from-run.result.end - c.loop-at.at) / c.run-from-run.result.step ≤ 200000 =
+    c.run_from-run.result.step c.run_from-run.result.end c.requires.span c.loop-at.invariant.0 c.run_from-run.ensures in
+    let h : c.loop-at.count + (c.run_from-run.result.end - c.loop-at.at) / c.run_from-run.result.step ≤ 200000 =
     omega (arith, w.few, w.within, c.requires.span.most) in
     search rules
 
-pub offset-bounds-out-count : goal.offset-bounds-out-count
-offset-bounds-out-count c =
+pub offset_bounds-out-count : goal.offset_bounds-out-count
+offset_bounds-out-count c =
     let h : c.loop-at.count ≤ 200000 = omega (arith, c.loop-at.invariant.0.few, c.loop-at.invariant.0.within, c.requires.span.most) in
     search rules
 
-pub slice-bounds-write-rungs-end : goal.slice-bounds-write-rungs-end
-slice-bounds-write-rungs-end c =
+pub slice_bounds-write_rungs-end : goal.slice_bounds-write_rungs-end
+slice_bounds-write_rungs-end c =
     let w = walked_more c.args.steps.now.bands c.args.low c.args.high c.loop-at.at c.loop-at.count
-    c.run-from-run.result.step c.run-from-run.result.end c.requires.span c.loop-at.invariant.0 c.run-from-run.ensures in
-    let h = walked_within c.args.steps.now.bands c.args.low c.args.high c.run-from-run.result.end
-    (c.loop-at.count + (c.run-from-run.result.end - c.loop-at.at) / c.run-from-run.result.step) w in
-    let room : c.loop-at.count + (c.run-from-run.result.end - c.loop-at.at) / c.run-from-run.result.step ≤ length c.loop-at.out =
+    c.run_from-run.result.step c.run_from-run.result.end c.requires.span c.loop-at.invariant.0 c.run_from-run.ensures in
+    let h = walked_within c.args.steps.now.bands c.args.low c.args.high c.run_from-run.result.end
+    (c.loop-at.count + (c.run_from-run.result.end - c.loop-at.at) / c.run_from-run.result.step) w in
+    let room : c.loop-at.count + (c.run_from-run.result.end - c.loop-at.at) / c.run_from-run.result.step ≤ length c.loop-at.out =
     omega (arith, h, c.requires.room, length-set c.args.out.now 0 c.args.low) in
     search rules
 
@@ -48,10 +47,10 @@ loop-at-preserved c =
     let bands = c.args.steps.now.bands in
     let at = c.loop-at.at in
     let count = c.loop-at.count in
-    let step = c.run-from-run.result.step in
-    let end = c.run-from-run.result.end in
+    let step = c.run_from-run.result.step in
+    let end = c.run_from-run.result.end in
     let n = (end - at) / step in
-    let w = walked_more bands c.args.low c.args.high at count step end c.requires.span c.loop-at.invariant.0 c.run-from-run.ensures in
+    let w = walked_more bands c.args.low c.args.high at count step end c.requires.span c.loop-at.invariant.0 c.run_from-run.ensures in
     let h = walked_within bands c.args.low c.args.high end (count + n) w in
     let room : count + n ≤ length c.loop-at.out = omega (arith, h, c.requires.room, length-set c.args.out.now 0 c.args.low) in
     let k : (count + n) - count ≡ n = omega arith in
@@ -59,8 +58,8 @@ loop-at-preserved c =
     omega (arith, length-take-le ((count + n) - count) (drop count c.loop-at.out) (omega (arith, length-drop count c.loop-at.out))) in (
       w,
       filled_more bands c.args.low c.args.high at count step end c.loop-at.out (set c.args.out.now 0 c.args.low)
-          c.requires.span c.loop-at.invariant.0 c.run-from-run.ensures room c.loop-at.invariant.1
-          ((count + n) - count) (length (take ((count + n) - count) (drop count c.loop-at.out))) c.write-rungs.new.part k m c.write-rungs.ensures,
+          c.requires.span c.loop-at.invariant.0 c.run_from-run.ensures room c.loop-at.invariant.1
+          ((count + n) - count) (length (take ((count + n) - count) (drop count c.loop-at.out))) c.write_rungs.new.part k m c.write_rungs.ensures,
     )
 
 pub returns : goal.returns

@@ -1,4 +1,4 @@
-use Rattle.std.proofs.Common.{◌≡◌, ℕ, ◌+◌, get_or, sym, refl, subst, inl, arith}
+use Rattle.std.proofs.Common.{◌≡◌, ℕ, sym, refl, subst, inl, arith}
 use Rattle.strikelists.proofs.Scans.{Scan, scan_step, scan_end, scan_past, scanned}
 use Rattle.strikelists.proofs.runs.run_from.Goals as goal
 use Rattle.strikelists.proofs.runs.run_from.Goals.{then-band-at, else-band-at+then-band-end, else-band-at+else-band-end}
@@ -18,11 +18,11 @@ loop-band-preserved c =
     let s = c.loop-band.invariant in
     let here = c.loop-band-test.true in
     elim c.if-band-at.branch [
-      | then-band-at w ↦ to w.step_is w.end_is
+      | then-band-at w ↦ to w.step-is w.end-is
           (scan_step bands c.args.at c.args.high i c.loop-band.step c.loop-band.end s here w.if-band-at.true)
-      | else-band-at+then-band-end w ↦ to w.step_is w.end_is
+      | else-band-at+then-band-end w ↦ to w.step-is w.end-is
           (scan_end bands c.args.at c.args.high i c.loop-band.step c.loop-band.end s here w.if-band-at.false w.if-band-end.true)
-      | else-band-at+else-band-end w ↦ to w.step_is w.end_is
+      | else-band-at+else-band-end w ↦ to w.step-is w.end-is
           (scan_past bands c.args.at c.args.high i c.loop-band.step c.loop-band.end s here w.if-band-at.false w.if-band-end.false)
     ]
 

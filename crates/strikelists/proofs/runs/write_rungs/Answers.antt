@@ -1,4 +1,4 @@
-use Rattle.std.proofs.Common.{◌≡◌, ℕ, suc, ◌+◌, ◌*◌, ◌<◌, ◌≤◌, List, [], ◌∷◌, ◌++◌, length, take, sym, refl, ap, ◌∙◌, mul-le-mul_right, add-mul, one-mul, zero-mul, arith, rules}
+use Rattle.std.proofs.Common.{◌≡◌, ℕ, ◌+◌, ◌*◌, ◌<◌, ◌≤◌, [], ◌∷◌, ◌++◌, length, sym, refl, ap, ◌∙◌, mul-le-mul_right, add-mul, one-mul, zero-mul, arith, rules}
 use Rattle.std.proofs.lemmas.List.{take_more_set, take_all}
 use Rattle.strikelists.specs.Runs.{rungs}
 use Rattle.strikelists.proofs.Stretches.{rungs_more}
@@ -16,8 +16,8 @@ above from i step n lt h =
 raised : (from i step strike : ℕ) → strike ≡ from + i * step → strike + step ≡ from + (i + 1) * step
 raised from i step strike e = omega (arith, add-mul i 1 step, one-mul step)
 
-pub overflow-add-strike : goal.overflow-add-strike
-overflow-add-strike c =
+pub overflow_add-strike : goal.overflow_add-strike
+overflow_add-strike c =
     let i = c.loop-place.place-index in
     let up = raised c.args.from i c.args.step c.loop-place.strike c.loop-place.invariant.0 in
     let h = above c.args.from i c.args.step (length c.args.part.now) c.loop-place-test.true c.requires in

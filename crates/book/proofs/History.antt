@@ -1,5 +1,5 @@
 -- A book that follows the rules goes on having a history, and so the law.
-use Rattle.std.proofs.Common.{◌≡◌, ℕ, Ok, Err, Result, sym, subst}
+use Rattle.std.proofs.Common.{ℕ, Ok, Err, Result, sym, subst}
 use Rattle.terms.specs.declared.refusal.Refusal.{Refusal}
 use Rattle.fixings.specs.declared.closed.ClosedFixing.{ClosedFixing}
 use Rattle.ledger.specs.Calls.{Event}

@@ -59,8 +59,8 @@ impl Book {
 
     /// Trades so many contracts from the seller to the buyer, at the tariff's prices, which moves its standing.
     pub fn trade<T: Tariff>(&mut self, tariff: &mut T, trade: Trade) -> Result<(), Refusal>
-        ensures call { Answers (event_of (price tariff.old) (trade_of trade)) self.old self.new result }
-        ensures standing { tariff.new ≡ standing_after after tariff.old (book_of self.old) (event_of (price tariff.old) (trade_of trade)) }
+        ensures call { Answers (event_of (T.Tariff.price tariff.old) (trade_of trade)) self.old self.new result }
+        ensures standing { tariff.new ≡ standing_after T.Tariff.after tariff.old (book_of self.old) (event_of (T.Tariff.price tariff.old) (trade_of trade)) }
     {
         trading::trade(&mut self.tables, tariff, trade)
     }

@@ -8,7 +8,7 @@ use Rattle.book.proofs.sealed.Book.delta.Goals as goal
 pub invariant_of-self : goal.invariant_of-self
 invariant_of-self c =
     let f : Follows (bare (delta (numbers c.args.kind c.args.month c.args.strike) c.args.value)) c.args.self.now.tables c.delta.new.tables c.delta.result = search rules in
-    (onward _ c.args.self.now.tables _ _ c.args.self.now.reached f, tt)
+    record { reached = onward _ c.args.self.now.tables _ _ c.args.self.now.reached f }
 
 pub returns : goal.returns
 returns c =

@@ -1,5 +1,3 @@
-use Rattle.tables.specs.Model.{model_of, bare, Follows}
-use Rattle.ledger.specs.Calls.{mark}
 use Rattle.ledger.proofs.Reached.{lasting}
 use Rattle.book.proofs.History.{onward, answers}
 use Rattle.book.proofs.sealed.Book.mark.Goals as goal
@@ -7,7 +5,7 @@ use Rattle.book.proofs.sealed.Book.mark.Goals as goal
 pub invariant_of-self : goal.invariant_of-self
 invariant_of-self c =
     let h = c.args.self.now.reached in
-    (onward _ c.args.self.now.tables _ _ h (c.mark.ensures (lasting.sound _ h) (lasting.owned _ h)), tt)
+    record { reached = onward _ c.args.self.now.tables _ _ h (c.mark.ensures (lasting.sound _ h) (lasting.owned _ h)) }
 
 pub returns : goal.returns
 returns c =

@@ -4,8 +4,7 @@ ghost use Rattle.ledger.specs.Calls.{admit, list, close, mark, delta};
 ghost use Rattle.ledger.specs.Judge.{judge_opening};
 ghost use Rattle.ledger.specs.Numbers.{family_of};
 ghost use Rattle.ledger.specs.Runs.{standing_after};
-ghost use Rattle.tables.specs.Model.{spaces_of, bare, Judges};
-ghost use Rattle.tables.proofs.Doors.{numbers};
+ghost use Rattle.tables.specs.Model.{spaces_of, bare, Judges, numbers};
 ghost use Rattle.trading.specs.Deals.{trade_of, event_of};
 ghost use Rattle.book.specs.Sealed.{book_of, Law, Answers, Enters};
 

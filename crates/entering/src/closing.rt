@@ -5,8 +5,7 @@ ghost use Rattle.ledger.specs.Calls.{close};
 ghost use Rattle.ledger.specs.Judge.{judge_close};
 ghost use Rattle.ledger.specs.Numbers.{family_of, deal_in, key_of};
 ghost use Rattle.ledger.specs.Rows.{placed};
-ghost use Rattle.tables.specs.Model.{model_of, bare, Judges, Follows};
-ghost use Rattle.tables.proofs.Doors.{numbers};
+ghost use Rattle.tables.specs.Model.{model_of, bare, Judges, Follows, numbers};
 ghost use Rattle.entering.specs.Closed.{ClosedAt};
 
 use positions::{Position, line_key, series_key};

@@ -5,8 +5,7 @@ ghost use Rattle.ledger.specs.Book.{state_at};
 ghost use Rattle.ledger.specs.Calls.{delta};
 ghost use Rattle.ledger.specs.Judge.{judge_delta};
 ghost use Rattle.ledger.specs.Numbers.{family_of, key_of};
-ghost use Rattle.tables.specs.Model.{model_of, bare, Judges, Follows};
-ghost use Rattle.tables.proofs.Doors.{numbers};
+ghost use Rattle.tables.specs.Model.{model_of, bare, Judges, Follows, numbers};
 ghost use Rattle.entering.specs.Found.{FoundAt};
 
 use crate::listing::takes_delta;

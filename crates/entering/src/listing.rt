@@ -9,8 +9,7 @@ ghost use Rattle.ledger.specs.Judge.{need, judge_list};
 ghost use Rattle.ledger.specs.Numbers.{family_of, first_in, delta_range, is_future, key_of};
 ghost use Rattle.ledger.specs.Post.{post};
 ghost use Rattle.ledger.specs.Rows.{present};
-ghost use Rattle.tables.specs.Model.{model_of, unpriced, bare, Judges, Follows};
-ghost use Rattle.tables.proofs.Doors.{numbers};
+ghost use Rattle.tables.specs.Model.{model_of, unpriced, bare, Judges, Follows, numbers};
 
 use ledger::{State, Terms};
 use positions::{future_key, series_key};

@@ -54,7 +54,7 @@ abbrev pub holding : ℕ → ℕ → Journal → ℤ
 holding a s [] = pos 0
 holding a s (e ∷ j) = cond e.accepted (holding_by e.call a s (λ n. holding a n j)) (holding a s j)
 
--- units whose worth moves with the mark of the futureKey m
+-- units whose worth moves with the mark of the future with the key m
 abbrev pub moving_by : Call → ℕ → ℕ → Journal → ℤ
 moving_by (admit c h) a m j = pos 0
 moving_by (list x v) a m j = pos 0

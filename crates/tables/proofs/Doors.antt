@@ -13,8 +13,8 @@ use Rattle.terms.specs.Steps.{step_in}
 use Rattle.series.specs.declared.series.Series as series
 use Rattle.series.specs.Listing.{offers, takes_strike, SeriesRange, HasNumbers}
 use Rattle.positions.specs.Keys.{series_key}
-use Rattle.ledger.specs.Calls.{Series}
 use Rattle.ledger.specs.Numbers.{family_of, kind_of, account_kind_of, series_kind, month_in, series_in, is_on_step, key_of}
+use Rattle.tables.specs.Model.{numbers}
 
 pub account_kind : (k : AccountKind) (n : ℕ) → account_kind_number k ≡ n → k ≡ account_kind_of n
 account_kind House n e = ap account_kind_of e
@@ -55,9 +55,6 @@ month_out m h = ways (month_in m) refl
     ways false e = refl
 
 -- ---- series
-abbrev pub numbers : ℕ → ℕ → ℕ → Series
-numbers kind month strike = record { kind = kind; month = month; strike = strike }
-
 module _ (f : Family) (kind month strike : ℕ) where
   pub has_kind : (s : series.Series) → HasNumbers f kind month strike s → series_kind (numbers kind month strike) ≡ s.kind
   has_kind s h = ap kind_of (sym h.has_kind) ∙ kind_of_lem s.kind

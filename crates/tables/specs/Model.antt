@@ -1,8 +1,8 @@
 -- The book of the rules that tables hold.
-use Rattle.std.specs.Prelude.{◌≡◌, None, Ok, Err, Result}
+use Rattle.std.specs.Prelude.{◌≡◌, ℕ, None, Ok, Err, Result}
 use Rattle.registers.specs.Held.{rows_of, room_of}
 use Rattle.terms.specs.declared.refusal.Refusal.{Refusal}
-use Rattle.ledger.specs.Calls.{Call, Pricing, Event}
+use Rattle.ledger.specs.Calls.{Series, Call, Pricing, Event}
 use Rattle.ledger.specs.Book.{Spaces, Book}
 use Rattle.ledger.specs.Judge.{Verdict}
 use Rattle.ledger.specs.Runs.{judge, step}
@@ -25,6 +25,10 @@ model_of t = record {
 abbrev pub Judges : {X : Type 0} → Verdict → (X → Type 0) → Result X Refusal → Type 0
 Judges v P (Ok x) = (v ≡ Ok tt) × P x
 Judges v P (Err e) = v ≡ Err e
+
+-- a series by the numbers that offices send
+abbrev pub numbers : ℕ → ℕ → ℕ → Series
+numbers kind month strike = record { kind = kind; month = month; strike = strike }
 
 -- a call that no tariff prices and that needs no scratch
 abbrev pub unpriced : Pricing

@@ -14,8 +14,7 @@ use Rattle.ledger.proofs.Accepted.{ClosePassed, passed}
 use Rattle.ledger.proofs.PositionLaws.{closable_minis}
 use Rattle.ledger.proofs.RowLaws.{at_absent}
 use Rattle.tables.specs.declared.tables.Tables.{Tables}
-use Rattle.tables.specs.Model.{model_of, unpriced}
-use Rattle.tables.proofs.Doors.{numbers}
+use Rattle.tables.specs.Model.{model_of, unpriced, numbers}
 use Rattle.tables.proofs.Following.{refused, accepted, judge_is, never_opened}
 use Rattle.entering.specs.Closed.{ClosedAt}
 use Rattle.entering.proofs.closing.close.Goals as goal

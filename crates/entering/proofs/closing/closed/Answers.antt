@@ -9,8 +9,8 @@ use Rattle.positions.specs.Positions.{flat, closable, closed}
 use Rattle.ledger.specs.Book.{position_at}
 use Rattle.ledger.specs.Numbers.{family_of, account_in, deal_in, series_in, is_on_step, key_of}
 use Rattle.ledger.specs.Rows.{present}
-use Rattle.tables.specs.Model.{model_of}
-use Rattle.tables.proofs.Doors.{numbers, has_key, range_is, range_not, step_is}
+use Rattle.tables.specs.Model.{model_of, numbers}
+use Rattle.tables.proofs.Doors.{has_key, range_is, range_not, step_is}
 use Rattle.tables.proofs.Following.{passes, fails}
 use Rattle.entering.proofs.Others.{none_closed, some_closed}
 use Rattle.entering.proofs.closing.closed.Goals as goal

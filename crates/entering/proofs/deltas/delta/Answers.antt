@@ -8,8 +8,7 @@ use Rattle.ledger.specs.Judge as judging
 use Rattle.ledger.specs.Numbers.{key_of}
 use Rattle.ledger.specs.Post.{post}
 use Rattle.ledger.specs.Rows.{change}
-use Rattle.tables.specs.Model.{model_of}
-use Rattle.tables.proofs.Doors.{numbers}
+use Rattle.tables.specs.Model.{model_of, numbers}
 use Rattle.tables.proofs.Following.{refused, accepted, judge_is, never_opened}
 use Rattle.entering.specs.Found.{FoundAt}
 use Rattle.entering.proofs.deltas.delta.Goals as goal

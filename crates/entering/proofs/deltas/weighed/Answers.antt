@@ -8,8 +8,8 @@ use Rattle.ledger.specs.declared.rows.Terms.{Terms}
 use Rattle.ledger.specs.Book.{unlisted, state_at, is_done}
 use Rattle.ledger.specs.Numbers.{family_of, series_kind, is_future, delta_range, series_in, is_on_step, key_of}
 use Rattle.ledger.specs.Rows.{present}
-use Rattle.tables.specs.Model.{model_of}
-use Rattle.tables.proofs.Doors.{numbers, has_kind, has_key, range_is, range_not, step_is}
+use Rattle.tables.specs.Model.{model_of, numbers}
+use Rattle.tables.proofs.Doors.{has_kind, has_key, range_is, range_not, step_is}
 use Rattle.tables.proofs.Following.{passes, fails}
 use Rattle.entering.proofs.Others.{not_future, not_done}
 use Rattle.entering.proofs.deltas.weighed.Goals as goal

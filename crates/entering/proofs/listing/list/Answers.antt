@@ -10,8 +10,7 @@ use Rattle.ledger.specs.Numbers.{key_of}
 use Rattle.ledger.specs.Post.{post}
 use Rattle.ledger.specs.Rows.{change}
 use Rattle.ledger.proofs.Accepted.{ListPassed, passed}
-use Rattle.tables.specs.Model.{model_of, unpriced}
-use Rattle.tables.proofs.Doors.{numbers}
+use Rattle.tables.specs.Model.{model_of, unpriced, numbers}
 use Rattle.tables.proofs.Following.{refused, accepted, judge_is, never_opened}
 use Rattle.entering.proofs.Rooms.{listed_fits, or_true}
 use Rattle.entering.proofs.listing.list.Goals as goal

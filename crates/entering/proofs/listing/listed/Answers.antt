@@ -6,8 +6,8 @@ use Rattle.terms.specs.declared.month.Month.{Month}
 use Rattle.terms.specs.declared.kinds.SeriesKind.{SeriesKind}
 use Rattle.ledger.specs.Numbers.{family_of, series_kind, first_in, series_in, is_on_step, key_of}
 use Rattle.ledger.specs.Rows.{present}
-use Rattle.tables.specs.Model.{unpriced}
-use Rattle.tables.proofs.Doors.{numbers, has_kind, has_key, range_is, range_not, step_is}
+use Rattle.tables.specs.Model.{unpriced, numbers}
+use Rattle.tables.proofs.Doors.{has_kind, has_key, range_is, range_not, step_is}
 use Rattle.tables.proofs.Following.{passes, fails}
 use Rattle.entering.proofs.Chains.{both_pass, one_fails, month_same, ok_unit}
 use Rattle.entering.proofs.Rooms.{listed_fits}

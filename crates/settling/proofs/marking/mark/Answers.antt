@@ -61,7 +61,7 @@ returns-in_default-state c σ w =
     subst (λ (r : Verdict). Follows (marking c.args.month c.args.price) t t r) (sym (ap Err c.plain-in_default-state.ensures))
     (no_trading t c.args.month c.args.price c.in_ok-family.ensures.0 (range_in 24000 25199 c.args.month c.in_ok-month.ensures.0)
     (range_in 1 10000000 c.args.price c.in_ok-price.ensures.0) (ap is_some found)
-    (ap (λ (x : Terms). is_trading x.state) (terms_found (rows_of t.series) (future_key c.args.month) c.in-Some.terms found) ∙ other_state c.in-Some.terms.state c.in_default-state.not-Trading))
+    (ap (λ (x : Terms). is_trading x.state) (terms_found (rows_of t.series) (future_key c.args.month) c.in-Some.terms found) ∙ other_state c.in-Some.terms.state (search rules)))
 
 pub returns : goal.returns
 unfolding amount

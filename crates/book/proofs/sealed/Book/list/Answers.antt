@@ -1,7 +1,6 @@
 use Rattle.std.proofs.Common.{rules}
 use Rattle.ledger.specs.Calls.{list}
-use Rattle.tables.specs.Model.{bare, Follows}
-use Rattle.tables.proofs.Doors.{numbers}
+use Rattle.tables.specs.Model.{bare, Follows, numbers}
 use Rattle.book.proofs.History.{onward, answers}
 use Rattle.book.proofs.sealed.Book.list.Goals as goal
 

@@ -4,7 +4,8 @@
 usage: tools/spell.py [--look]      at the top of the repository, once, after /opt/rattle/port/port.py
 
 It turns whole names in specs/, proofs/, contracts, edits, and between backticks in README.md and docs/. Names from src/ keep their
-spelling: no old name is one, since the old names have a dash or a capital in the middle, which no name of src/ has.
+spelling: no old name is one. Nearly all old names have a dash, a capital or the sign of the integers in the middle, which no name of
+src/ has; `Inside` and `Outside` stood in one file of proofs alone.
 --look writes nothing and prints the files where a new name stands already, so that names that fall together are seen.
 """
 

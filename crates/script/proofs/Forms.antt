@@ -5,13 +5,7 @@ use Rattle.std.proofs.lemmas.Bool.{cases_lt, cases_order}
 use Rattle.script.specs.declared.numbers.Misread.{Misread}
 use Rattle.script.specs.declared.numbers.Misread.TheVariants.{NotANumber, TooFine, TooLarge}
 use Rattle.script.specs.Digits.{Numeral, value}
-use Rattle.script.specs.Numbers.{Fitting, Decimal, after_point, Formless, Hundredths}
-
--- d is the place of the first point of w, or w's length
-pub record First (w : List ℕ) (d : ℕ) : Type 0 where
-  pub within : d ≤ length w
-  pub before : (k : ℕ) → k < d → get_or w k 0 ≡ 46 → ⊥
-  pub found : d < length w → get_or w d 0 ≡ 46
+use Rattle.script.specs.Numbers.{Fitting, Decimal, after_point, FirstPoint, Formless, Hundredths}
 
 -- a point cuts the text in two
 pub cut : (w : List ℕ) (d : ℕ) → d < length w → get_or w d 0 ≡ 46 → w ≡ take d w ++ 46 ∷ drop (d + 1) w
@@ -20,7 +14,7 @@ cut w d h e =
     ∙ ap (λ t. take d w ++ t) (drop_more w d 0 h ∙ ap (λ x. x ∷ drop (d + 1) w) e)
 
 -- a numeral has no point
-pub no_point : (w : List ℕ) (d : ℕ) → First w d → Numeral w → d ≡ length w
+pub no_point : (w : List ℕ) (d : ℕ) → FirstPoint w d → Numeral w → d ≡ length w
 no_point w d at n = elim (cases_lt d (length w)) [
   | inl h ↦ absurd (omega (arith, at.found h, n.digits d h))
   | inr h ↦ omega arith
@@ -39,7 +33,7 @@ pub front_byte : (w whole part : List ℕ) → Decimal w whole part → (k : ℕ
 front_byte w whole part d k h = ap (λ t. get_or t k 0) d.joined ∙ get_or_append_left whole (46 ∷ part) 0 k h
 
 -- so it is the first one
-pub first_of : (w whole part : List ℕ) → Decimal w whole part → First w (length whole)
+pub first_of : (w whole part : List ℕ) → Decimal w whole part → FirstPoint w (length whole)
 first_of w whole part d = record {
   within = omega (arith, sizes w whole part d);
   before = λ k h e. omega (arith, front_byte w whole part d k h, d.front.digits k h);
@@ -47,7 +41,7 @@ first_of w whole part d = record {
 }
 
 -- the whole points end where the first point stands
-pub point_place : (w whole part : List ℕ) (i : ℕ) → First w i → Decimal w whole part → length whole ≡ i
+pub point_place : (w whole part : List ℕ) (i : ℕ) → FirstPoint w i → Decimal w whole part → length whole ≡ i
 point_place w whole part i at d = elim (cases_order (length whole) i) [
   | inl e ↦ e
   | inr (inl h) ↦ absurd (at.before (length whole) h (point_byte w whole part d))
@@ -55,11 +49,11 @@ point_place w whole part i at d = elim (cases_order (length whole) i) [
 ]
 
 -- the two parts are what lies before and behind it
-pub whole_is : (w whole part : List ℕ) (i : ℕ) → First w i → Decimal w whole part → whole ≡ take i w
+pub whole_is : (w whole part : List ℕ) (i : ℕ) → FirstPoint w i → Decimal w whole part → whole ≡ take i w
 whole_is w whole part i at d =
     sym (ap (λ t. take i t) d.joined ∙ take_at whole (46 ∷ part) i (point_place w whole part i at d))
 
-pub part_is : (w whole part : List ℕ) (i : ℕ) → First w i → Decimal w whole part → part ≡ drop (i + 1) w
+pub part_is : (w whole part : List ℕ) (i : ℕ) → FirstPoint w i → Decimal w whole part → part ≡ drop (i + 1) w
 part_is w whole part i at d =
     let len = point_place w whole part i at d in
     let lt : i < length w = omega (arith, sizes w whole part d) in
@@ -70,7 +64,7 @@ part_is w whole part i at d =
     cc tails
 
 -- a text with a point, and a numeral on either side of it
-pub decimal_at : (w whole part : List ℕ) (i : ℕ) → First w i → i < length w → whole ≡ take i w → part ≡ drop (i + 1) w → Numeral whole → Numeral part → Decimal w whole part
+pub decimal_at : (w whole part : List ℕ) (i : ℕ) → FirstPoint w i → i < length w → whole ≡ take i w → part ≡ drop (i + 1) w → Numeral whole → Numeral part → Decimal w whole part
 decimal_at w whole part i at lt e f m n = record {
   joined = cut w i lt (at.found lt) ∙ ap (λ t. t ++ 46 ∷ drop (i + 1) w) (sym e) ∙ ap (λ t. whole ++ 46 ∷ t) (sym f);
   front = m;
@@ -78,14 +72,14 @@ decimal_at w whole part i at lt e f m n = record {
 }
 
 -- no numeral before the first point
-pub formless_front : (w whole : List ℕ) (i : ℕ) → First w i → whole ≡ take i w → (Numeral whole → ⊥) → Formless w
+pub formless_front : (w whole : List ℕ) (i : ℕ) → FirstPoint w i → whole ≡ take i w → (Numeral whole → ⊥) → Formless w
 formless_front w whole i at e none = record {
   plain = λ n. none (subst Numeral (sym (e ∙ take_all i w (omega (arith, no_point w i at n)))) n);
   decimal = λ a b d. none (subst Numeral (whole_is w a b i at d ∙ sym e) d.front);
 }
 
 -- no numeral behind it
-pub formless_back : (w part : List ℕ) (i : ℕ) → First w i → i < length w → part ≡ drop (i + 1) w → (Numeral part → ⊥) → Formless w
+pub formless_back : (w part : List ℕ) (i : ℕ) → FirstPoint w i → i < length w → part ≡ drop (i + 1) w → (Numeral part → ⊥) → Formless w
 formless_back w part i at lt e none = record {
   plain = λ n. omega (arith, no_point w i at n);
   decimal = λ a b d. none (subst Numeral (part_is w a b i at d ∙ sym e) d.back);

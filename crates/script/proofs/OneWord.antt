@@ -1,12 +1,12 @@
 -- A line has one next word, and a text one next line end.
 use Rattle.std.proofs.Common.{◌≡◌, ℕ, ◌<◌, ◌≤◌, List, sym, inl, inr, arith}
 use Rattle.std.proofs.lemmas.Bool.{cases_order, both_ways}
-use Rattle.script.specs.declared.words.Span.{Span}
+use Rattle.std.specs.declared.ops.Range.{Range}
 use Rattle.script.specs.Only.{Only}
 use Rattle.script.specs.Words.{WordAt, LineEnd}
 
 -- no word starts before another does
-starts : (line : List ℕ) (from : ℕ) (s t : Span) → WordAt line from s → WordAt line from t → s.start < t.start → ⊥
+starts : (line : List ℕ) (from : ℕ) (s t : Range ℕ) → WordAt line from s → WordAt line from t → s.start < t.start → ⊥
 starts line from s t a b h =
     let some : s.start < s.end = elim (cases_order s.start s.end) [
       | inl e ↦ absurd (omega (arith, a.none e, b.ordered, b.within))
@@ -18,12 +18,12 @@ starts line from s t a b h =
     both_ways _ (a.taken s.start here some) (b.skipped s.start behind h)
 
 -- no word ends before another does that starts with it
-ends : (line : List ℕ) (from : ℕ) (s t : Span) → WordAt line from s → WordAt line from t → s.start ≡ t.start → s.end < t.end → ⊥
+ends : (line : List ℕ) (from : ℕ) (s t : Range ℕ) → WordAt line from s → WordAt line from t → s.start ≡ t.start → s.end < t.end → ⊥
 ends line from s t a b e h =
     let behind : t.start ≤ s.end = omega (arith, a.ordered) in
     both_ways _ (b.taken s.end behind h) (a.stops (omega (arith, b.within)))
 
-pub one_word : (line : List ℕ) (from : ℕ) (s t : Span) → WordAt line from s → WordAt line from t → s ≡ t
+pub one_word : (line : List ℕ) (from : ℕ) (s t : Range ℕ) → WordAt line from s → WordAt line from t → s ≡ t
 one_word line from s t a b =
     let start-same : s.start ≡ t.start = elim (cases_order s.start t.start) [
       | inl e ↦ e
@@ -48,7 +48,7 @@ one_end text from m n a b = elim (cases_order m n) [
   | inr (inr h) ↦ absurd (sooner text from n m b a h)
 ]
 
-pub only_word : (line : List ℕ) (from : ℕ) (s : Span) → WordAt line from s → Only (WordAt line from) s
+pub only_word : (line : List ℕ) (from : ℕ) (s : Range ℕ) → WordAt line from s → Only (WordAt line from) s
 only_word line from s h = record { holds = h; alone = λ t k. one_word line from t s k h }
 
 pub only_end : (text : List ℕ) (from n : ℕ) → LineEnd text from n → Only (LineEnd text from) n

@@ -28,7 +28,7 @@ fn judged(tables: &Tables, account: u16, kind: u8) -> Result<AccountKind, Refusa
     if account == NO_ACCOUNT {
         return Err(Refusal::plain(Reason::OutOfRange));
     }
-    let kind = AccountKind::numbered(kind)?;
+    let kind = AccountKind::try_from(kind)?;
     if tables.accounts.read(u64::from(account)).is_some() {
         return Err(Refusal::plain(Reason::Present));
     }

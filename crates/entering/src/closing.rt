@@ -10,7 +10,7 @@ ghost use Rattle.entering.specs.Closed.{ClosedAt};
 
 use positions::{Position, line_key, series_key};
 use registers::Register;
-use series::Series;
+use series::{Series, SeriesNumbers};
 use tables::Tables;
 use terms::{Family, NO_ACCOUNT, Reason, Refusal};
 
@@ -74,7 +74,14 @@ fn closed(
     requires { family_of tables.now.family ≡ family }
     ensures { Judges (judge_close (model_of tables.now) (numbers kind month strike) account count) (ClosedAt tables.now (key_of (numbers kind month strike)) account count) result }
 {
-    let series = Series::numbered(family, kind, month, strike)?;
+    let series = Series::numbered(
+        family,
+        SeriesNumbers {
+            kind,
+            month,
+            strike,
+        },
+    )?;
     if account == NO_ACCOUNT {
         return Err(Refusal::plain(Reason::OutOfRange));
     }

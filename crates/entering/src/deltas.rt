@@ -11,7 +11,7 @@ ghost use Rattle.entering.specs.Found.{FoundAt};
 use crate::listing::takes_delta;
 use ledger::{State, Terms};
 use positions::series_key;
-use series::Series;
+use series::{Series, SeriesNumbers};
 use tables::Tables;
 use terms::{Family, Reason, Refusal, SeriesKind};
 
@@ -54,7 +54,14 @@ fn weighed(
     requires { family_of tables.now.family ≡ family }
     ensures { Judges (judge_delta (model_of tables.now) (numbers kind month strike) value) (FoundAt tables.now (key_of (numbers kind month strike))) result }
 {
-    let series = Series::numbered(family, kind, month, strike)?;
+    let series = Series::numbered(
+        family,
+        SeriesNumbers {
+            kind,
+            month,
+            strike,
+        },
+    )?;
     if let SeriesKind::Future = series.kind() {
         return Err(Refusal::plain(Reason::OutOfRange));
     }

@@ -13,7 +13,7 @@ ghost use Rattle.tables.specs.Model.{model_of, unpriced, bare, Judges, Follows, 
 
 use ledger::{State, Terms};
 use positions::{future_key, series_key};
-use series::{Delta, Series};
+use series::{Delta, Series, SeriesNumbers};
 use tables::Tables;
 use terms::{Family, Month, Reason, Refusal, SeriesKind};
 
@@ -83,7 +83,14 @@ fn listed(
     requires { family_of tables.now.family ≡ family }
     ensures { Judges (judge_list (model_of tables.now) (numbers kind month strike) first (post (model_of tables.now) (list (numbers kind month strike) first) unpriced)) (λ s. series_key (kind_number s.kind) s.month.number s.strike ≡ key_of (numbers kind month strike)) result }
 {
-    let series = Series::numbered(family, kind, month, strike)?;
+    let series = Series::numbered(
+        family,
+        SeriesNumbers {
+            kind,
+            month,
+            strike,
+        },
+    )?;
     if !takes_first(series.kind(), first) {
         return Err(Refusal::plain(Reason::OutOfRange));
     }

@@ -50,7 +50,7 @@ fn entered(tables: &Tables, month: u16, family: Family, price: u32) -> Result<Fu
     requires { price ≤ 10000000 }
     ensures { Judges (judge_enter (model_of tables.now) month (family_number family) price) (FutureAt tables.now month) result }
 {
-    let month = Month::numbered(month)?;
+    let month = Month::try_from(month)?;
     if family as u8 != tables.family {
         return Err(Refusal::plain(Reason::OutOfRange));
     }

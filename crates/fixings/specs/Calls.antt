@@ -1,5 +1,5 @@
 -- What a fixing holds, and what its calls answer.
-use Rattle.std.specs.Prelude.{◌≡◌, ℕ, ◌<◌, ◌⊎◌, List, [], ◌∷◌, ◌++◌, length, take, Ok, Err, Result, slice_index}
+use Rattle.std.specs.Prelude.{◌≡◌, ℕ, ◌<◌, ◌⊎◌, List, [], ◌∷◌, ◌++◌, length, Ok, Err, Result, slice_index}
 use Rattle.terms.specs.declared.refusal.Reason.TheVariants.{OutOfRange, WrongState}
 use Rattle.terms.specs.declared.refusal.Refusal.{Refusal}
 use Rattle.terms.specs.Refusals.{plain}
@@ -11,7 +11,7 @@ use Rattle.fixings.specs.Finals.{final_price, IsFinal}
 
 -- the samples so far, in the order in which they came
 abbrev pub taken : OpenFixing → List ℕ
-taken o = take o.count o.samples
+taken o = o.samples.items
 
 -- samples are still to come
 abbrev pub Lacking : OpenFixing → Type 0

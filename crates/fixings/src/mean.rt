@@ -7,6 +7,16 @@ use terms::Family;
 /// A whole point, in hundredths.
 const POINT: u64 = 100;
 
+/// Prices of which the mean is taken: their sum, and how many they are.
+#[derive(Clone, Copy)]
+struct Prices {
+    sum: u64,
+    count: u64,
+    ghost some: { 0 < count },
+    ghost few: { count ≤ 201 },
+    ghost most: { sum ≤ 10000000 * count },
+}
+
 /// The final price that the samples and the close make for the family.
 pub(crate) fn final_price(family: Family, samples: &[u32], close: u32) -> u32
     requires few { length samples.now ≤ 200 }
@@ -16,46 +26,51 @@ pub(crate) fn final_price(family: Family, samples: &[u32], close: u32) -> u32
     ensures meaning { IsFinal family (samples.now ++ close ∷ []) result }
     ensures most { result ≤ 10000000 }
 {
-    let total = total(samples) + u64::from(close);
-    let n = samples.len() as u64 + 1;
+    let prices = Prices::of(samples, close);
     let price = match family {
-        Family::HangSeng | Family::ChinaEnterprises => lowered(total, n),
-        Family::MsciTaiwan => rounded(total, n),
+        Family::HangSeng | Family::ChinaEnterprises => prices.lowered(),
+        Family::MsciTaiwan => prices.rounded(),
     };
     price as u32
 }
 
-/// The sum of the samples.
+// The sum of the samples.
 fn total(samples: &[u32]) -> u64
-    requires few { length samples.now ≤ 200 }
-    requires prices { NoneAbove 10000000 samples.now }
-    ensures value { result ≡ sum samples.now }
-    ensures most { result ≤ 10000000 * length samples.now }
+    requires { length samples.now ≤ 200 }
+    ensures { result ≡ sum samples.now }
 {
-    let mut total: u64 = 0;
-    for price in samples {
-        total += u64::from(*price);
+    samples.iter().map(|price| u64::from(*price)).sum()
+}
+
+impl Prices {
+    // The samples and the close.
+    fn of(samples: &[u32], close: u32) -> Prices
+        requires few { length samples.now ≤ 200 }
+        requires prices { NoneAbove 10000000 samples.now }
+        requires price { close ≤ 10000000 }
+        ensures total { result.sum ≡ sum (samples.now ++ close ∷ []) }
+        ensures number { result.count ≡ length (samples.now ++ close ∷ []) }
+    {
+        Prices {
+            sum: total(samples) + u64::from(close),
+            count: samples.len() as u64 + 1,
+        }
     }
-    total
-}
 
-/// The mean of `n` prices, lowered to a whole point.
-fn lowered(total: u64, n: u64) -> u64
-    requires some { 0 < n }
-    requires few { n ≤ 201 }
-    requires prices { total ≤ 10000000 * n }
-    ensures { result ≡ total / (100 * n) * 100 }
-{
-    total / (POINT * n) * POINT
-}
+    // The mean, lowered to a whole point.
+    fn lowered(self) -> u64
+        ensures value { result ≡ self.sum / (100 * self.count) * 100 }
+        ensures most { result ≤ 10000000 }
+    {
+        self.sum / (POINT * self.count) * POINT
+    }
 
-/// The mean of `n` prices, rounded to hundredths, a half upwards.
-fn rounded(total: u64, n: u64) -> u64
-    requires some { 0 < n }
-    requires few { n ≤ 201 }
-    requires prices { total ≤ 10000000 * n }
-    ensures { result ≡ (2 * total + n) / (2 * n) }
-{
-    let twice = 2 * total + n;
-    twice / (2 * n)
+    // The mean, rounded to hundredths, a half upwards.
+    fn rounded(self) -> u64
+        ensures value { result ≡ (2 * self.sum + self.count) / (2 * self.count) }
+        ensures most { result ≤ 10000000 }
+    {
+        let twice = 2 * self.sum + self.count;
+        twice / (2 * self.count)
+    }
 }

@@ -1,5 +1,7 @@
-ghost use Rattle.std.specs.Prelude.{ℕ, ◌<◌, ◌≤◌, slice_index};
+ghost use Rattle.std.specs.Prelude.{◌≤◌, length};
+ghost use Rattle.fixings.specs.Bounds.{NoneAbove};
 
+use arrayvec::ArrayVec;
 use terms::Family;
 
 mod calls;
@@ -11,10 +13,9 @@ const MOST_SAMPLES: usize = 200;
 pub struct OpenFixing {
     pub(crate) family: Family,
     pub(crate) expected: usize,
-    pub(crate) count: usize,
-    pub(crate) samples: [u32; MOST_SAMPLES],
+    pub(crate) samples: ArrayVec<u32, MOST_SAMPLES>,
     ghost some: { 1 ≤ expected },
     ghost most: { expected ≤ 200 },
-    ghost within: { count ≤ expected },
-    ghost prices: { (k : ℕ) → k < count → slice_index samples k ≤ 10000000 },
+    ghost within: { length samples.items ≤ expected },
+    ghost prices: { NoneAbove 10000000 samples.items },
 }

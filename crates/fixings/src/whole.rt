@@ -11,14 +11,10 @@ pub fn fix(family: u8, samples: &[u32], close: u32) -> Result<ClosedFixing, Refu
 {
     let begun = OpenFixing::begin(family, samples.len())?;
     let sampled = take_all(begun, samples)?;
-    match sampled.close(close) {
-        Ok(closed) => Ok(closed),
-        Err(back) => {
-            let (refusal, left) = back;
-            left.abandon();
-            Err(refusal)
-        }
-    }
+    sampled.close(close).map_err(|(refusal, left)| {
+        left.abandon();
+        refusal
+    })
 }
 
 // Gives all samples to a fixing that has taken none.

@@ -4,6 +4,7 @@ ghost use Rattle.terms.specs.Steps.{step_in};
 ghost use Rattle.series.specs.Listing.{offers, size_in, takes_strike, SeriesNumbered, SeriesChecked, DeltaChecked, AnyDelta};
 
 use crate::delta::Delta;
+use crate::numbers::SeriesNumbers;
 use crate::series::Series;
 use terms::{Family, Month, Reason, Refusal, SeriesKind, Size};
 
@@ -33,17 +34,18 @@ fn takes_strike(kind: SeriesKind, strike: u32) -> bool
 {
     match kind {
         SeriesKind::Future => strike == 0,
-        _ => 1 <= strike && strike <= 110_000,
+        _ => (1..=110_000).contains(&strike),
     }
 }
 
 impl Series {
     /// The series of these numbers in a family: refused by 4 where one is out of range or the family lacks the kind.
-    pub fn numbered(family: Family, kind: u8, month: u16, strike: u32) -> Result<Series, Refusal>
-        ensures { SeriesNumbered family kind month strike result }
+    pub fn numbered(family: Family, numbers: SeriesNumbers) -> Result<Series, Refusal>
+        ensures { SeriesNumbered family numbers.kind numbers.month numbers.strike result }
     {
-        let kind = SeriesKind::numbered(kind)?;
-        let month = Month::numbered(month)?;
+        let kind = SeriesKind::try_from(numbers.kind)?;
+        let month = Month::try_from(numbers.month)?;
+        let strike = numbers.strike;
         if !offers(family, kind) || !takes_strike(kind, strike) {
             return Err(Refusal::plain(Reason::OutOfRange));
         }
@@ -65,10 +67,10 @@ impl Series {
 
     /// The series of these numbers in a family: refused by 4 where one is out of range or the family lacks the kind,
     /// then by 5 where the strike is off its step.
-    pub fn checked(family: Family, kind: u8, month: u16, strike: u32) -> Result<Series, Refusal>
-        ensures { SeriesChecked family kind month strike result }
+    pub fn checked(family: Family, numbers: SeriesNumbers) -> Result<Series, Refusal>
+        ensures { SeriesChecked family numbers.kind numbers.month numbers.strike result }
     {
-        let series = Series::numbered(family, kind, month, strike)?;
+        let series = Series::numbered(family, numbers)?;
         if !series.on_step(family) {
             return Err(Refusal::plain(Reason::OffStep));
         }
@@ -101,12 +103,12 @@ impl Delta {
     pub fn checked(kind: SeriesKind, value: i32) -> Result<Delta, Refusal>
         ensures { DeltaChecked kind value result }
     {
-        let (least, most) = match kind {
-            SeriesKind::Future => (10_000, 10_000),
-            SeriesKind::Call | SeriesKind::CallOnFuture => (0, 10_000),
-            SeriesKind::Put | SeriesKind::PutOnFuture => (-10_000, 0),
+        let range = match kind {
+            SeriesKind::Future => 10_000..=10_000,
+            SeriesKind::Call | SeriesKind::CallOnFuture => 0..=10_000,
+            SeriesKind::Put | SeriesKind::PutOnFuture => -10_000..=0,
         };
-        if value < least || value > most {
+        if !range.contains(&value) {
             return Err(Refusal::plain(Reason::OutOfRange));
         }
         Ok(Delta {

@@ -3,8 +3,10 @@
 
 mod checks;
 mod delta;
+mod numbers;
 mod series;
 
 pub use checks::{has_size, offers};
 pub use delta::Delta;
+pub use numbers::SeriesNumbers;
 pub use series::Series;

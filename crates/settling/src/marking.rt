@@ -22,8 +22,8 @@ pub fn mark(tables: &mut Tables, month: u16, price: u32) -> Result<(), Refusal>
     ensures { Sound (model_of tables.old) → Owned (model_of tables.old) → Follows (marking month price) tables.old tables.new result }
 {
     let family = tables.usable()?;
-    let month = Month::numbered(month)?;
-    let price = Price::numbered(price)?;
+    let month = Month::try_from(month)?;
+    let price = Price::try_from(price)?;
     let future = future_key(month);
     let Some(terms) = tables.series.read(future) else {
         return Err(Refusal::plain(Reason::Absent));

@@ -2,3 +2,4 @@ pub mod Strikes
 pub mod Grids
 pub mod Runs
 pub mod Lists
+pub mod Asks

@@ -6,20 +6,24 @@ ghost use Rattle.strikelists.specs.Lists.{NearestAnswer, ListAnswer, OneNearest,
 ghost use Rattle.strikelists.specs.Strikes.{Nearest};
 ghost use Rattle.terms.specs.declared.family.Family.TheVariants.{HangSeng};
 ghost use Rattle.terms.specs.Families.{bands_of};
-ghost use Rattle.strikelists.specs.Grids.{AskedFor};
+ghost use Rattle.strikelists.specs.Asks.{AskedFor};
 
 mod ends;
+mod grid;
 mod runs;
+mod span;
 
-use terms::{Family, Price, Reason, Refusal, StepTable};
+use grid::StrikeGrid;
+use span::Span;
+use terms::{Family, Price, Reason, Refusal};
 
 /// The strike nearest to a closing level (in hundredths), the lower of two that are as near.
 pub fn nearest_strike(family: u8, level: u32) -> Result<u32, Refusal>
     ensures answer { NearestAnswer family level result }
     ensures one { OneNearest }
 {
-    let (steps, level) = asked(family, level)?;
-    Ok(ends::nearest(&steps, level))
+    let (grid, level) = asked(family, level)?;
+    Ok(grid.nearest(level).strike)
 }
 
 /// Writes every strike around a closing level (in hundredths), ascending, to the front of `out`, and answers how many
@@ -29,15 +33,18 @@ pub fn strikes(family: u8, level: u32, out: &mut [u32]) -> Result<usize, Refusal
     ensures answer { ListAnswer family level out.old out.new result }
     ensures one { OneList }
 {
-    let (steps, level) = asked(family, level)?;
-    let middle = ends::nearest(&steps, level);
-    let low = ends::low_end(&steps, middle);
-    let high = ends::high_end(&steps, middle);
-    let count = runs::count(&steps, low, high);
+    let (grid, level) = asked(family, level)?;
+    let middle = grid.nearest(level);
+    let span = Span {
+        grid,
+        low: grid.low_end(middle),
+        high: grid.high_end(middle),
+    };
+    let count = span.count();
     if out.len() < count {
         return Err(Refusal::plain(Reason::NoSpace));
     }
-    runs::fill(&steps, low, high, out);
+    span.fill(out);
     Ok(count)
 }
 
@@ -50,11 +57,14 @@ pub fn worked_lists() -> u8
     0
 }
 
-// The family's steps and the level as a price.
-fn asked(family: u8, level: u32) -> Result<(StepTable, Price), Refusal>
+// The family's strikes and the level as a price.
+fn asked(family: u8, level: u32) -> Result<(StrikeGrid, Price), Refusal>
     ensures { AskedFor family level result }
 {
-    let family = Family::numbered(family)?;
-    let level = Price::numbered(level)?;
-    Ok((family.steps(), level))
+    let family = Family::try_from(family)?;
+    let level = Price::try_from(level)?;
+    let grid = StrikeGrid {
+        steps: family.steps(),
+    };
+    Ok((grid, level))
 }

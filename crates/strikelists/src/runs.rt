@@ -1,9 +1,10 @@
 ghost use Rattle.std.specs.Prelude.{◌≡◌, ℕ, ◌+◌, ◌*◌, ◌<◌, ◌≤◌, ◌++◌, length, drop};
 ghost use Rattle.terms.specs.Steps.{Listed};
 ghost use Rattle.strikelists.specs.Grids.{Grid};
-ghost use Rattle.strikelists.specs.Runs.{EvenRun, Span, stretch, rungs};
+ghost use Rattle.strikelists.specs.Runs.{EvenRun, stretch, rungs};
 
-use terms::{StepBand, StepTable};
+use crate::span::Span;
+use terms::StepBand;
 
 // From a strike up to the strike `end`, strikes lie `step` apart.
 #[derive(Clone, Copy)]
@@ -44,35 +45,35 @@ fn write_rungs(from: u32, step: u32, part: &mut [u32])
     }
 }
 
-// How many strikes there are from `low` to `high`, which are strikes: the steps that fit into each run.
-pub(crate) fn count(steps: &StepTable, low: u32, high: u32) -> usize
-    requires { Span steps.now.bands low high }
-    ensures { result ≡ length (stretch steps.now.bands low high) }
-{
-    let mut at = low;
-    let mut count = 1;
-    while at < high {
-        let run = run_from(&steps.bands, at, high);
-        count += ((run.end - at) / run.step) as usize;
-        at = run.end;
+impl Span {
+    /// How many strikes there are: the steps that fit into each run.
+    pub(crate) fn count(&self) -> usize
+        ensures { result ≡ length (stretch self.now.grid.steps.bands self.now.low self.now.high) }
+    {
+        let mut at = self.low;
+        let mut count = 1;
+        while at < self.high {
+            let run = run_from(&self.grid.steps.bands, at, self.high);
+            count += ((run.end - at) / run.step) as usize;
+            at = run.end;
+        }
+        count
     }
-    count
-}
 
-// Writes the strikes from `low` to `high` to the front of `out`.
-pub(crate) fn fill(steps: &StepTable, low: u32, high: u32, out: &mut [u32])
-    requires span { Span steps.now.bands low high }
-    requires room { length (stretch steps.now.bands low high) ≤ length out.old }
-    ensures { out.new ≡ stretch steps.now.bands low high ++ drop (length (stretch steps.now.bands low high)) out.old }
-{
-    out[0] = low;
-    let mut at = low;
-    let mut count = 1;
-    while at < high {
-        let run = run_from(&steps.bands, at, high);
-        let more = ((run.end - at) / run.step) as usize;
-        write_rungs(at, run.step, &mut out[count..count + more]);
-        count += more;
-        at = run.end;
+    /// Writes the strikes to the front of `out`.
+    pub(crate) fn fill(&self, out: &mut [u32])
+        requires { length (stretch self.now.grid.steps.bands self.now.low self.now.high) ≤ length out.old }
+        ensures { out.new ≡ stretch self.now.grid.steps.bands self.now.low self.now.high ++ drop (length (stretch self.now.grid.steps.bands self.now.low self.now.high)) out.old }
+    {
+        out[0] = self.low;
+        let mut at = self.low;
+        let mut count = 1;
+        while at < self.high {
+            let run = run_from(&self.grid.steps.bands, at, self.high);
+            let more = ((run.end - at) / run.step) as usize;
+            write_rungs(at, run.step, &mut out[count..count + more]);
+            count += more;
+            at = run.end;
+        }
     }
 }

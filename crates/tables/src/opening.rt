@@ -33,7 +33,7 @@ impl Tables {
     pub fn usable(&self) -> Result<Family, Refusal>
         ensures { Judges (judge_opening self.now.family (spaces_of self.now)) (λ f. family_of self.now.family ≡ f) result }
     {
-        let family = Family::numbered(self.family)?;
+        let family = Family::try_from(self.family)?;
         if !book_accepts(self.accounts.room()) {
             return Err(Refusal::plain(Reason::NoSpace));
         }

@@ -41,9 +41,9 @@ impl Listing {
     ) -> Result<(), Refusal>
         ensures { Lists self.old series_kind size account_kind event rate self.new result }
     {
-        let series_kind = SeriesKind::numbered(series_kind)?;
-        let size = Size::numbered(size)?;
-        let account_kind = AccountKind::numbered(account_kind)?;
+        let series_kind = SeriesKind::try_from(series_kind)?;
+        let size = Size::try_from(size)?;
+        let account_kind = AccountKind::try_from(account_kind)?;
         let event = Event::numbered(event)?;
         let rate = Rate::or_none(rate)?;
         self.put(place(series_kind, size, account_kind, event), rate);

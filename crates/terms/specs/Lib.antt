@@ -5,3 +5,4 @@ pub mod Ranges
 pub mod Kinds
 pub mod Steps
 pub mod Families
+pub mod Texts

@@ -84,11 +84,13 @@ const FAMILIES: [FamilyTerms; 3] = [
     },
 ];
 
-impl Family {
-    /// The family with this number, 0 to 2.
-    pub fn numbered(number: u8) -> Result<Family, Refusal>
-        ensures { Numbered (λ n. n < 3) family_number number result }
-    {
+/// The family with this number, 0 to 2.
+impl TryFrom<u8> for Family {
+    type Error = Refusal;
+
+    ghost try_from_gives = { Numbered (λ n. n < 3) family_number };
+
+    fn try_from(number: u8) -> Result<Family, Refusal> {
         match number {
             0 => Ok(Family::HangSeng),
             1 => Ok(Family::ChinaEnterprises),
@@ -96,7 +98,9 @@ impl Family {
             _ => Err(Refusal::plain(Reason::OutOfRange)),
         }
     }
+}
 
+impl Family {
     /// The cents by which one hundredth of a point moves one unit.
     pub fn cents_per_hundredth(self) -> u32
         ensures { result ≡ cents_of self }

@@ -29,11 +29,13 @@ pub enum Size {
     Mini,
 }
 
-impl SeriesKind {
-    /// The kind with this number, 0 to 4.
-    pub fn numbered(number: u8) -> Result<SeriesKind, Refusal>
-        ensures { Numbered (λ n. n < 5) kind_number number result }
-    {
+/// The kind with this number, 0 to 4.
+impl TryFrom<u8> for SeriesKind {
+    type Error = Refusal;
+
+    ghost try_from_gives = { Numbered (λ n. n < 5) kind_number };
+
+    fn try_from(number: u8) -> Result<SeriesKind, Refusal> {
         match number {
             0 => Ok(SeriesKind::Future),
             1 => Ok(SeriesKind::Call),
@@ -45,11 +47,13 @@ impl SeriesKind {
     }
 }
 
-impl AccountKind {
-    /// The kind with this number, 0 to 2.
-    pub fn numbered(number: u8) -> Result<AccountKind, Refusal>
-        ensures { Numbered (λ n. n < 3) account_kind_number number result }
-    {
+/// The kind with this number, 0 to 2.
+impl TryFrom<u8> for AccountKind {
+    type Error = Refusal;
+
+    ghost try_from_gives = { Numbered (λ n. n < 3) account_kind_number };
+
+    fn try_from(number: u8) -> Result<AccountKind, Refusal> {
         match number {
             0 => Ok(AccountKind::House),
             1 => Ok(AccountKind::Maker),
@@ -59,18 +63,22 @@ impl AccountKind {
     }
 }
 
-impl Size {
-    /// The size with this number, 0 or 1.
-    pub fn numbered(number: u8) -> Result<Size, Refusal>
-        ensures { Numbered (λ n. n < 2) size_number number result }
-    {
+/// The size with this number, 0 or 1.
+impl TryFrom<u8> for Size {
+    type Error = Refusal;
+
+    ghost try_from_gives = { Numbered (λ n. n < 2) size_number };
+
+    fn try_from(number: u8) -> Result<Size, Refusal> {
         match number {
             0 => Ok(Size::Full),
             1 => Ok(Size::Mini),
             _ => Err(Refusal::plain(Reason::OutOfRange)),
         }
     }
+}
 
+impl Size {
     /// How many units one contract of this size is.
     pub fn units(self) -> u8
         ensures { result ≡ units_in self }

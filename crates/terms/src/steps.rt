@@ -26,11 +26,8 @@ impl StepTable {
 fn step_in(bands: &[StepBand], strike: u32) -> u32
     ensures { result ≡ step_in bands.now strike }
 {
-    let mut step = 1;
-    for band in bands {
-        if band.from <= strike {
-            step = band.step;
-        }
-    }
-    step
+    bands.iter().fold(
+        1,
+        |step, band| if band.from <= strike { band.step } else { step },
+    )
 }

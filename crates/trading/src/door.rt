@@ -11,7 +11,7 @@ ghost use Rattle.trading.specs.Parts.{asked};
 
 use crate::deal::Deal;
 use crate::order::Trade;
-use series::{Series, has_size};
+use series::{Series, SeriesNumbers, has_size};
 use terms::{Family, Price, Reason, Refusal, Size};
 
 /// The highest account number.
@@ -24,14 +24,21 @@ const MOST_CONTRACTS: u32 = 100_000;
 fn series(family: Family, trade: Trade) -> Result<Series, Refusal>
     ensures { Judges (need (series_in family (trade_of trade).series) (plain OutOfRange) (Ok tt)) (λ s. series_from s ≡ (trade_of trade).series) result }
 {
-    Series::numbered(family, trade.kind, trade.month, trade.strike)
+    Series::numbered(
+        family,
+        SeriesNumbers {
+            kind: trade.kind,
+            month: trade.month,
+            strike: trade.strike,
+        },
+    )
 }
 
 // The size of a trade, where the series has such contracts.
 fn size(family: Family, series: Series, number: u8) -> Result<Size, Refusal>
     ensures { Judges (need (size_offered family (series_from series) number) (plain OutOfRange) (Ok tt)) (λ z. size_number z ≡ number) result }
 {
-    let size = Size::numbered(number)?;
+    let size = Size::try_from(number)?;
     if !has_size(family, series.kind(), size) {
         return Err(Refusal::plain(Reason::OutOfRange));
     }
@@ -69,7 +76,7 @@ pub(crate) fn deal(family: Family, trade: Trade) -> Result<Deal, Refusal>
     if !count_in_range(trade.count) {
         return Err(Refusal::plain(Reason::OutOfRange));
     }
-    let price = Price::numbered(trade.price)?;
+    let price = Price::try_from(trade.price)?;
     if !on_grid(family, series, price) {
         return Err(Refusal::plain(Reason::OffStep));
     }

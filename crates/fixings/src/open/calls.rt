@@ -4,6 +4,7 @@ ghost use Rattle.fixings.specs.Calls.{taken, Begins, Samples, Closes};
 use crate::closed::ClosedFixing;
 use crate::mean::final_price;
 use crate::open::{MOST_SAMPLES, OpenFixing};
+use arrayvec::ArrayVec;
 use terms::{Family, Price, Reason, Refusal};
 
 impl OpenFixing {
@@ -11,15 +12,14 @@ impl OpenFixing {
     pub fn begin(family: u8, expected: usize) -> Result<OpenFixing, Refusal>
         ensures { Begins family expected result }
     {
-        let family = Family::numbered(family)?;
-        if expected < 1 || expected > MOST_SAMPLES {
+        let family = Family::try_from(family)?;
+        if !(1..=MOST_SAMPLES).contains(&expected) {
             return Err(Refusal::plain(Reason::OutOfRange));
         }
         Ok(OpenFixing {
             family,
             expected,
-            count: 0,
-            samples: [0; MOST_SAMPLES],
+            samples: ArrayVec::new(),
         })
     }
 
@@ -27,12 +27,11 @@ impl OpenFixing {
     pub fn sample(&mut self, price: u32) -> Result<(), Refusal>
         ensures { Samples self.old price self.new result }
     {
-        let price = Price::numbered(price)?;
-        if self.count == self.expected {
+        let price = Price::try_from(price)?;
+        if self.samples.len() == self.expected {
             return Err(Refusal::plain(Reason::WrongState));
         }
-        self.samples[self.count] = price.hundredths();
-        self.count += 1;
+        self.samples.push(price.hundredths());
         Ok(())
     }
 
@@ -40,20 +39,20 @@ impl OpenFixing {
     pub fn close(self, value: u32) -> Result<ClosedFixing, (Refusal, OpenFixing)>
         ensures { Closes self value result }
     {
-        let value = match Price::numbered(value) {
+        // `map_err` would have to move the fixing into its closure.
+        let value = match Price::try_from(value) {
             Ok(price) => price.hundredths(),
             Err(refusal) => return Err((refusal, self)),
         };
-        if self.count < self.expected {
+        if self.samples.len() < self.expected {
             return Err((Refusal::plain(Reason::WrongState), self));
         }
         let OpenFixing {
             family,
             expected: _,
-            count,
             samples,
         } = self;
-        let price = final_price(family, &samples[0..count], value);
+        let price = final_price(family, samples.as_slice(), value);
         Ok(ClosedFixing { family, price })
     }
 
@@ -61,11 +60,10 @@ impl OpenFixing {
     pub fn abandon(self) -> usize
         ensures { result ≡ length (taken self) }
     {
-        let thrown_away = self.count;
+        let thrown_away = self.samples.len();
         let OpenFixing {
             family: _,
             expected: _,
-            count: _,
             samples: _,
         } = self;
         thrown_away

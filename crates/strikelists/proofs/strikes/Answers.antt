@@ -14,15 +14,15 @@ words bands own price level a low high e d n p q =
     subst (λ (l : ℕ). StrikeList own l (stretch bands low high)) d
     (subst (λ (bs : List StepBand). StrikeList bs price (stretch bands low high)) e (stretch_list bands price a low high n p q))
 
-pub returns-in_err-steps : goal.returns-in_err-steps
-returns-in_err-steps c =
+pub returns-in_err-grid : goal.returns-in_err-grid
+returns-in_err-grid c =
     let p = err_from_is_err_and c.from_residual.result c.from_residual.ensures.1 in
-    record { answer = rw (p.1, p.2) (record { same = refl; why = inl c.in_err-steps.ensures }); one = one_list }
+    record { answer = rw (p.1, p.2) (record { same = refl; why = inl c.in_err-grid.ensures }); one = one_list }
 
 pub returns-then-out-count : goal.returns-then-out-count
 returns-then-out-count c =
-    let q = c.in_ok-steps.ensures in
-    let bands = c.in_ok-steps.steps.bands in
+    let q = c.in_ok-grid.ensures in
+    let bands = c.in_ok-grid.grid.steps.bands in
     record {
       answer = record {
         same = refl;
@@ -30,10 +30,10 @@ returns-then-out-count c =
           record {
             f = q.0.0;
             asked = q.0.1;
-            list = stretch bands c.low_end-low.result c.high_end-high.result;
-            words = words bands (bands_of q.0.0) c.in_ok-steps.level.hundredths c.args.level
-                c.nearest-middle.result c.low_end-low.result c.high_end-high.result q.0.2 q.1
-                c.nearest-middle.ensures.near c.low_end-low.ensures.low c.high_end-high.ensures.high;
+            list = stretch bands c.low_end.result c.high_end.result;
+            words = words bands (bands_of q.0.0) c.in_ok-grid.level.hundredths c.args.level
+                c.nearest-middle.result.strike c.low_end.result c.high_end.result q.0.2 q.1
+                c.nearest-middle.ensures c.low_end.ensures c.high_end.ensures.high;
             short = omega (arith, c.count-count.ensures, c.if-out-count.true);
           },
           search rules,
@@ -44,17 +44,17 @@ returns-then-out-count c =
 
 pub returns : goal.returns
 returns c =
-    let q = c.in_ok-steps.ensures in
-    let bands = c.in_ok-steps.steps.bands in
-    let list = stretch bands c.low_end-low.result c.high_end-high.result in
+    let q = c.in_ok-grid.ensures in
+    let bands = c.in_ok-grid.grid.steps.bands in
+    let list = stretch bands c.low_end.result c.high_end.result in
     record {
       answer = record {
         f = q.0.0;
         asked = q.0.1;
         list = list;
-        words = words bands (bands_of q.0.0) c.in_ok-steps.level.hundredths c.args.level
-            c.nearest-middle.result c.low_end-low.result c.high_end-high.result q.0.2 q.1
-            c.nearest-middle.ensures.near c.low_end-low.ensures.low c.high_end-high.ensures.high;
+        words = words bands (bands_of q.0.0) c.in_ok-grid.level.hundredths c.args.level
+            c.nearest-middle.result.strike c.low_end.result c.high_end.result q.0.2 q.1
+            c.nearest-middle.ensures c.low_end.ensures c.high_end.ensures.high;
         count = c.count-count.ensures;
         room = c.if-out-count.false;
         after = c.fill.ensures ∙ ap (λ n. list ++ drop n c.args.out.now) (sym c.count-count.ensures);

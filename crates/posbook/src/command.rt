@@ -1,4 +1,4 @@
-ghost use Rattle.std.specs.Prelude.{◌≡◌, IfOk, Ok, codes, Decides};
+ghost use Rattle.std.specs.Prelude.{IfOk, Ok, codes};
 ghost use Rattle.posbook.specs.Commands.{Behind, Says};
 ghost use Rattle.script.specs.Numbers.{Number, Hundredths};
 

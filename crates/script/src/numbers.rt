@@ -1,10 +1,13 @@
-ghost use Rattle.std.specs.Prelude.{◌≡◌, ℕ, ◌+◌, ◌*◌, ◌<◌, ◌≤◌, length, ◌≢◌, slice_index};
-ghost use Rattle.script.specs.Digits.{Numeral, value};
+ghost use Rattle.std.specs.Prelude.{◌+◌, ◌*◌, Some};
+ghost use Rattle.script.specs.Digits.{value};
 ghost use Rattle.script.specs.Numbers.{Number, Hundredths, Fitting, FirstPoint};
 ghost use Rattle.script.specs.Only.{Only};
+ghost use Rattle.script.specs.Texts.{misread_text};
 
 use crate::digits::{Digits, scaled};
 use crate::words::first_place;
+use std::error::Error;
+use std::fmt;
 
 const POINT: u8 = b'.';
 
@@ -18,6 +21,21 @@ pub enum Misread {
     /// It is 2^32 or more.
     TooLarge,
 }
+
+/// What is said of the word.
+impl fmt::Display for Misread {
+    ghost output = { λ m. Some (misread_text m) };
+
+    fn fmt<W: fmt::Write>(&self, f: &mut fmt::Formatter<W>) -> fmt::Result {
+        f.write_str(match self {
+            Misread::NotANumber => "is not a number",
+            Misread::TooFine => "has more than two decimals",
+            Misread::TooLarge => "is too large",
+        })
+    }
+}
+
+impl Error for Misread {}
 
 /// A plain number: one or more decimal digits and nothing else. Leading zeros are fine.
 pub fn number(word: &[u8]) -> Result<u32, Misread>

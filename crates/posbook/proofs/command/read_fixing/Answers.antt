@@ -1,4 +1,4 @@
-use Rattle.std.proofs.Common.{[], ◌∷◌, ◌++◌, Some, None, sym, refl, ap, ◌∙◌}
+use Rattle.std.proofs.Common.{ℕ, List, [], ◌∷◌, ◌++◌, Some, None, sym, refl, ap, ◌∙◌}
 use Rattle.posbook.proofs.Saying.{read, words_at_line, fixing_behind, words_more, prices_more}
 use Rattle.posbook.proofs.command.read_fixing.Goals as goal
 
@@ -23,7 +23,7 @@ loop-word-preserved c =
         words_more line.now inv.1.0 w.now c.next-2.new.self.at here next inv.1.2
             (read line here next (Some w) inv.0 refl more.1),
         prices_more inv.1.0 inv.1.1 w.now p inv.1.3 c.in_ok-close-2.ensures,
-        ap (λ xs. xs ++ p ∷ []) (inv.1.4 ∙ sym c.in_ok-push.ensures.items),
+        ap (λ xs. xs ++ p ∷ []) (inv.1.4 ∙ sym {A = List ℕ} c.in_ok-push.ensures.items),
       ),
     )
 

@@ -1,5 +1,5 @@
 -- The value of digits, one by one.
-use Rattle.std.proofs.Common.{◌≡◌, ℕ, zero, suc, ◌+◌, ◌<◌, ◌≤◌, List, [], ◌∷◌, length, get_or, take, fold, Err, ap, arith}
+use Rattle.std.proofs.Common.{◌≡◌, ℕ, zero, suc, ◌+◌, ◌<◌, ◌≤◌, List, [], ◌∷◌, length, get_or, take, fold, Err, arith}
 use Rattle.std.proofs.lemmas.List.{take_all}
 use Rattle.std.proofs.lemmas.List.Sums.{fold_more}
 use Rattle.script.specs.Digits.{further, value}
@@ -22,11 +22,11 @@ value_take_le w i = front_le 0 i w
 
 -- one digit more
 pub value_more : (w : List ℕ) (i : ℕ) → i < length w → value (take (i + 1) w) ≡ further (value (take i w)) (get_or w i 0)
-value_more w i h = fold_more further 0 w i 0 h
+value_more w i h = grind (arith, fold_more)
 
 -- all digits
 pub value_all : (w : List ℕ) (i : ℕ) → length w ≤ i → value (take i w) ≡ value w
-value_all w i h = ap value (take_all i w h)
+value_all w i h = grind (arith, take_all)
 
 -- no number above a refused one is refused for another reason
 pub larger_too : (m n : ℕ) (e : Misread) → m ≤ n → Fitting m (Err e) → Fitting n (Err e)

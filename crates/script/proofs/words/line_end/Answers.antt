@@ -7,6 +7,6 @@ pub returns : goal.returns
 returns c = only_end _ _ _ (record {
   after = search rules;
   within = search (rules, common_steps);
-  skipped = λ k h m. let before = c.first_place.ensures.before (k - c.min-from.result) in search (rules, common_steps, before);
+  skipped = λ k h m. let before = c.first_place.ensures.before (k - c.args.from) in search (rules, common_steps, before);
   stops = search (rules, common_steps);
 })

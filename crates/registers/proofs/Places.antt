@@ -73,13 +73,6 @@ module _ {V : Type 0} (k : ℕ) where
   put_missing (j ∷ ks) (v ∷ vs) zero x b n l h = rw (lt-ltb k j (h (omega arith)))
   put_missing (j ∷ ks) (v ∷ vs) (suc i) x b n l h = ap (λ (r : Rows V). (j, v) ∷ r) (put_missing ks vs i x (later k j ks i b) (omega arith) (omega arith) (λ g. h (omega arith))) ∙ sym (put_past x j v (zip ks vs) (b 0 (omega arith)))
 
-  pub without_missing : (ks : List ℕ) (vs : List V) (i : ℕ) → Before ks k i → length vs ≡ length ks → i ≤ length ks → Next ks k i → zip ks vs ≡ without k (zip ks vs)
-  unfolding without
-  without_missing [] vs i b n l h = refl
-  without_missing (j ∷ ks) [] i b n l h = refl
-  without_missing (j ∷ ks) (v ∷ vs) zero b n l h = rw (lt-ltb k j (h (omega arith)))
-  without_missing (j ∷ ks) (v ∷ vs) (suc i) b n l h = ap (λ (r : Rows V). (j, v) ∷ r) (without_missing ks vs i (later k j ks i b) (omega arith) (omega arith) (λ g. h (omega arith))) ∙ sym (without_past j v (zip ks vs) (b 0 (omega arith)))
-
   -- the rows before the place i have smaller keys, and the next has not
   pub below_at : (ks : List ℕ) (vs : List V) (i : ℕ) → Before ks k i → length vs ≡ length ks → i ≤ length ks → (i < length ks → k ≤ get_or ks i 0) → i ≡ below k (zip ks vs)
   unfolding below

@@ -1,5 +1,5 @@
 -- Laws of the three parts of rows.
-use Rattle.std.proofs.Common.{◌≡◌, ℕ, suc, ◌+◌, ◌<◌, ◌≤◌, Bool, true, false, cond, not, eqb, ltb, List, [], ◌∷◌, ◌++◌, length, drop, ℤ, ◌+ℤ◌, Some, None, filter, Option, sym, refl, ap, ◌∙◌, subst, ⊎_elim, zero-add, arith}
+use Rattle.std.proofs.Common.{◌≡◌, ℕ, suc, ◌+◌, ◌<◌, ◌≤◌, Bool, true, false, cond, not, eqb, ltb, List, [], ◌∷◌, ◌++◌, length, drop, ℤ, ◌+ℤ◌, Some, None, filter, Option, max, sym, refl, ap, ◌∙◌, subst, ⊎_elim, zero-add, arith}
 use Rattle.std.specs.List.{zip}
 use Rattle.std.proofs.lemmas.List.{length-take-le, take-append-drop, drop-drop, length-append, length-map, map-append}
 use Rattle.std.proofs.lemmas.Slice.Zip.{firsts-zip}
@@ -47,6 +47,13 @@ onwards_none a b (r ∷ rs) h =
     (λ l. rw (lt-ltb r.0 a l) (onwards_none a b rs h))
     (λ l. rw (le-ltb r.0 a l, le-ltb r.0 b (omega arith)))
     (cases_lt r.0 a)
+
+pub below_max : {V : Type 0} (a b : ℕ) (rs : Rows V) → below (max a b) rs ≡ below a rs + below b (onwards a rs)
+below_max a b rs =
+    ⊎_elim
+    (λ l. let e : max a b ≡ b = omega arith in ap (λ (k : ℕ). below k rs) e ∙ below_onwards a b rs (omega arith))
+    (λ l. let e : max a b ≡ a = omega arith in let z = onwards_none a b rs l in ap (λ (k : ℕ). below k rs) e ∙ omega arith)
+    (cases_lt a b)
 
 -- the rest, by its place
 pub rest_is : {V : Type 0} (a b : ℕ) (rs : Rows V) → rest a b rs ≡ drop (below a rs + below b (onwards a rs)) rs

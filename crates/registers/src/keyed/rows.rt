@@ -13,10 +13,8 @@ impl<T: Drop> Register<T> {
     pub fn get(&self, key: u64) -> Option<&T>
         ensures { option_map (λ x. x.now) result ≡ lookup (rows_of self.now) key }
     {
-        match self.find(key) {
-            Ok(i) => Some(self.content(i)),
-            Err(_) => None,
-        }
+        let place = self.find(key).ok()?;
+        self.content_at(place)
     }
 
     /// Lends the content under the key for writing: what stands there at the end is put in.
@@ -24,8 +22,8 @@ impl<T: Drop> Register<T> {
         ensures* writes_back { sem 𝓛 (follows_so (the_row T.row) T.row self.entry.ghost_name (name_of result) (λ w s. (is_some result ≡ true → rows_of s ≡ put key w (rows_of self.old)) × (room_of s ≡ room_of self.old)) (λ s. s ≡ self.old)) }
         ensures facts { option_map (λ x. x.now) result ≡ lookup (rows_of self.old) key }
     {
-        let i = self.row_of(key);
-        self.contents.get_mut(i)
+        let place = self.find(key).ok()?;
+        self.contents.get_mut(place)
     }
 
     /// Whether there is place for one more row.
@@ -43,18 +41,11 @@ impl<T: Drop> Register<T> {
         ensures room { room_of self.new ≡ room_of self.old }
     {
         match self.find(key) {
-            Ok(i) => {
-                self.replace_at(i, content);
-                return Ok(());
-            }
-            Err(i) => {
-                if !self.has_place() {
-                    return Err(content);
-                }
-                self.insert_at(i, key, content);
-                return Ok(());
-            }
+            Ok(place) => self.replace_at(place, content),
+            Err(place) if self.has_place() => self.insert_at(place, key, content),
+            Err(_) => return Err(content),
         }
+        Ok(())
     }
 
     /// Takes the row of the key out, and answers its content.
@@ -63,10 +54,8 @@ impl<T: Drop> Register<T> {
         ensures rows { rows_of self.new ≡ without key (rows_of self.old) }
         ensures room { room_of self.new ≡ room_of self.old }
     {
-        match self.find(key) {
-            Ok(i) => return Some(self.remove_at(i)),
-            Err(_) => return None,
-        }
+        let place = self.find(key).ok()?;
+        Some(self.remove_at(place))
     }
 }
 
@@ -75,9 +64,6 @@ impl<T: Copy + Drop> Register<T> {
     pub fn read(&self, key: u64) -> Option<T>
         ensures { result ≡ lookup (rows_of self.now) key }
     {
-        match self.find(key) {
-            Ok(i) => Some(*self.content(i)),
-            Err(_) => None,
-        }
+        self.get(key).copied()
     }
 }

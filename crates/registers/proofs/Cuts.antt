@@ -43,6 +43,8 @@ ascending_cut ks a b asc h k i j l m =
     (cases_lt i a))
     (cases_lt j a)
 
+pub ruleset cuts = (cut_length, ascending_cut)
+
 -- ---- the rows after a stretch of contents was lent and written
 zipped_append : {K X : Type 0} (js ks : List K) (ws vs : List X) → length ws ≡ length js → zip (js ++ ks) (ws ++ vs) ≡ zip js ws ++ zip ks vs
 zipped_append [] ks [] vs n = refl

@@ -39,6 +39,7 @@ impl<T: Drop> Register<T> {
         self.contents[i] = content;
     }
 
+    #[tactic(auto, using(crate::proofs::Always::facts, crate::proofs::Order::ascending_inserted))]
     pub(super) fn insert_at(&mut self, i: usize, key: u64, content: T)
         requires place { Found (keys_of self.old) key (Err i) }
         requires space { length (rows_of self.old) < room_of self.old }
@@ -63,6 +64,7 @@ impl<T: Drop> Register<T> {
     }
 
     // Takes the rows from the place `from` to the place `to` out.
+    #[tactic(auto, using(crate::proofs::Always::facts, crate::proofs::Cuts::cuts))]
     pub(super) fn cut_rows(&mut self, from: usize, to: usize)
         requires forward { from ≤ to }
         requires within { to ≤ length (rows_of self.old) }

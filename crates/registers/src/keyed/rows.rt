@@ -49,6 +49,7 @@ impl<T: Drop> Register<T> {
     }
 
     /// Takes the row of the key out, and answers its content.
+    #[tactic(auto, using(crate::proofs::Kept::taken))]
     pub fn take(&mut self, key: u64) -> Option<T>
         ensures answer { result ≡ lookup (rows_of self.old) key }
         ensures rows { rows_of self.new ≡ without key (rows_of self.old) }

@@ -24,6 +24,7 @@ impl<T: Drop> Register<T> {
     }
 
     /// The keys, row by row: each is greater than the one before it.
+    #[tactic(auto, using(crate::proofs::Always::facts))]
     pub fn keys(&self) -> &[u64]
         ensures value { result.now ≡ keys_in (rows_of self.now) }
         ensures len { length result.now ≡ length (rows_of self.now) }
@@ -34,6 +35,7 @@ impl<T: Drop> Register<T> {
     }
 
     /// The contents, row by row.
+    #[tactic(auto, using(crate::proofs::Always::facts))]
     pub fn contents(&self) -> &[T]
         ensures value { result.now ≡ contents_in (rows_of self.now) }
         ensures len { length result.now ≡ length (rows_of self.now) }

@@ -47,8 +47,7 @@ impl<T: Drop> Register<T> {
     pub fn stretch_contents(&self, a: u64, b: u64) -> &[T]
         ensures { result.now ≡ contents_in (stretch a b (rows_of self.now)) }
     {
-        let Range { start, end } = self.stretch(a, b);
-        &self.contents()[start..end]
+        &self.contents()[self.stretch(a, b)]
     }
 
     /// Lends the contents for writing, row by row: the register then holds what was written, under the same keys.

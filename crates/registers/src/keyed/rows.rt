@@ -35,14 +35,19 @@ impl<T: Drop> Register<T> {
 
     /// Puts the content under the key, in place of what stands there. Where there is no place for one more row, it is
     /// given back, and nothing changes.
+    #[tactic(auto, using(crate::proofs::Always::facts))]
     pub fn put(&mut self, key: u64, content: T) -> Result<(), T>
         ensures answer { result ≡ answered (place_for key (rows_of self.old) (room_of self.old)) content }
         ensures rows { rows_of self.new ≡ (if place_for key (rows_of self.old) (room_of self.old) then put key content (rows_of self.old) else rows_of self.old) }
         ensures room { room_of self.new ≡ room_of self.old }
     {
         match self.find(key) {
-            Ok(place) => self.replace_at(place, content),
-            Err(place) if self.has_place() => self.insert_at(place, key, content),
+            Ok(place) => self.contents[place] = content,
+            Err(place) if self.has_place() => {
+                // Within the reserved capacity an insert succeeds.
+                let _ = self.keys.insert(place, key);
+                let _ = self.contents.insert(place, content);
+            }
             Err(_) => return Err(content),
         }
         Ok(())
@@ -56,7 +61,8 @@ impl<T: Drop> Register<T> {
         ensures room { room_of self.new ≡ room_of self.old }
     {
         let place = self.find(key).ok()?;
-        Some(self.remove_at(place))
+        self.keys.remove(place);
+        Some(self.contents.remove(place))
     }
 }
 

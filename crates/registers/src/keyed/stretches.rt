@@ -63,13 +63,15 @@ impl<T: Drop> Register<T> {
     }
 
     /// Takes the rows whose keys lie from `a` to below `b` out, in one move, and answers how many they were.
+    #[tactic(auto, using(crate::proofs::Always::facts, crate::proofs::Cuts::cuts))]
     pub fn take_stretch(&mut self, a: u64, b: u64) -> usize
         ensures answer { result ≡ length (stretch a b (rows_of self.old)) }
         ensures rows { rows_of self.new ≡ front a (rows_of self.old) ++ rest a b (rows_of self.old) }
         ensures room { room_of self.new ≡ room_of self.old }
     {
         let Range { start, end } = self.stretch(a, b);
-        self.cut_rows(start, end);
+        drop(self.keys.drain(start..end));
+        drop(self.contents.drain(start..end));
         end - start
     }
 

@@ -1,5 +1,6 @@
 -- How the words of a line, read one after the other, make a command.
-use Rattle.std.proofs.Common.{◌≡◌, ℕ, List, [], ◌∷◌, ◌++◌, IfOk, Some, None, Ok, Err, vec_items, codes, Option, Result, Vec, sym, refl, ◌∙◌, subst}
+use Rattle.std.proofs.Common.{◌≡◌, ℕ, List, [], ◌∷◌, ◌++◌, IfOk, Some, None, Ok, Err, vec_items, codes, Option, Result, Vec, Bor, sym, refl, ◌∙◌, subst}
+use Rattle.std.specs.Option.{option_map}
 use Rattle.std.specs.declared.alloc.Global.{Global}
 use Rattle.posbook.specs.declared.unreadable.Unreadable.{Unreadable}
 use Rattle.script.specs.Numbers.{Number, Hundredths}
@@ -33,9 +34,12 @@ strikes_behind line a b d e v w f l p q r nf nl = record {
   named = refl;
 }
 
--- the same line, however it was reached
-pub at_line : (w : Option (List ℕ)) (a b : ℕ) {line line' : List ℕ} → line ≡ line' → Next line a w b → Next line' a w b
-at_line w a b e n = subst (λ (l : List ℕ). Next l a w b) e n
+-- what a call of `next` read, on the line where the reading began
+pub read : (r : Bor (List ℕ)) (a b : ℕ) (w : Option (Bor (List ℕ))) {s : Bor (List ℕ)} {o : Option (Bor (List ℕ))} → s ≡ r → o ≡ w
+    → Next s.now a (option_map (λ x. x.now) o) b → Next r.now a (option_map (λ x. x.now) w) b
+read r a b w {s} {o} e f n =
+    subst (λ (t : Bor (List ℕ)). Next t.now a (option_map (λ x. x.now) w) b) e
+    (subst (λ (v : Option (Bor (List ℕ))). Next s.now a (option_map (λ x. x.now) v) b) f n)
 
 pub words_at_line : (ws : List (List ℕ)) (a b : ℕ) {line line' : List ℕ} → line ≡ line' → Words line a ws b → Words line' a ws b
 words_at_line ws a b e n = subst (λ (l : List ℕ). Words l a ws b) e n

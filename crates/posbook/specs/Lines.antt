@@ -1,13 +1,13 @@
 -- The words of a line, one after the other.
 use Rattle.std.specs.Prelude.{◌≡◌, ℕ, ◌<◌, List, [], ◌∷◌, Some, None, Option}
 use Rattle.std.specs.List.{between}
-use Rattle.script.specs.declared.words.Span.{Span}
+use Rattle.std.specs.declared.ops.Range.{Range}
 use Rattle.script.specs.Words.{WordAt}
 
 -- From place a on, the next word of the line is w, which ends before place b; or there is none.
 abbrev pub Next : List ℕ → ℕ → Option (List ℕ) → ℕ → Type 0
-Next line a (Some w) b = (s : Span) × WordAt line a s × (s.start < s.end) × (w ≡ between s.start s.end line) × (b ≡ s.end)
-Next line a None b = (s : Span) × WordAt line a s × (s.start ≡ s.end) × (b ≡ s.end)
+Next line a (Some w) b = (s : Range ℕ) × WordAt line a s × (s.start < s.end) × (w ≡ between s.start s.end line) × (b ≡ s.end)
+Next line a None b = (s : Range ℕ) × WordAt line a s × (s.start ≡ s.end) × (b ≡ s.end)
 
 -- From place a on stand these words, the last of which ends before place b.
 abbrev pub Words : List ℕ → ℕ → List (List ℕ) → ℕ → Type 0

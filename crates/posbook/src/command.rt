@@ -1,4 +1,4 @@
-ghost use Rattle.std.specs.Prelude.{◌≡◌, IfOk, Ok, codes, Decides};
+ghost use Rattle.std.specs.Prelude.{IfOk, Ok, codes};
 ghost use Rattle.posbook.specs.Commands.{Behind, Says};
 ghost use Rattle.script.specs.Numbers.{Number, Hundredths};
 
@@ -28,35 +28,19 @@ pub(crate) fn read_command(heap: Global, line: &[u8]) -> Result<Command, Unreada
     ensures { IfOk result (Says line.now) }
 {
     let mut words = Words::new(line);
-    let Some(name) = words.next() else {
-        return Err(Unreadable::NoCommand);
-    };
-    if is_named(name, "fixing") {
-        return read_fixing(heap, words);
+    match words.next() {
+        Some(b"fixing") => read_fixing(heap, words),
+        Some(b"strikes") => read_strikes(words),
+        _ => Err(Unreadable::NoCommand),
     }
-    if is_named(name, "strikes") {
-        return read_strikes(words);
-    }
-    Err(Unreadable::NoCommand)
 }
 
-fn is_named(word: &[u8], name: &str) -> bool
-    ensures { Decides result (word.now ≡ name.now) }
-{
-    word == name.as_bytes()
-}
-
-fn read_fixing(heap: Global, words: Words) -> Result<Command, Unreadable>
+fn read_fixing(heap: Global, mut words: Words) -> Result<Command, Unreadable>
     ensures { IfOk result (Behind words.entry.line.now words.entry.at (codes "fixing")) }
 {
-    let mut words = words;
-    let Some(first) = words.next() else {
-        return Err(Unreadable::Missing(Field::Family));
-    };
+    let first = words.next().ok_or(Unreadable::Missing(Field::Family))?;
     let family = read_family(first)?;
-    let Some(second) = words.next() else {
-        return Err(Unreadable::Missing(Field::Close));
-    };
+    let second = words.next().ok_or(Unreadable::Missing(Field::Close))?;
     let mut samples = Vec::new(heap);
     let mut close = read_sample(second, words)?;
     while let Some(word) = words.next() {
@@ -70,59 +54,45 @@ fn read_fixing(heap: Global, words: Words) -> Result<Command, Unreadable>
     })
 }
 
-fn read_strikes(words: Words) -> Result<Command, Unreadable>
+fn read_strikes(mut words: Words) -> Result<Command, Unreadable>
     ensures { IfOk result (Behind words.entry.line.now words.entry.at (codes "strikes")) }
 {
-    let mut words = words;
-    let Some(first) = words.next() else {
-        return Err(Unreadable::Missing(Field::Family));
-    };
+    let first = words.next().ok_or(Unreadable::Missing(Field::Family))?;
     let family = read_family(first)?;
-    let Some(second) = words.next() else {
-        return Err(Unreadable::Missing(Field::Level));
-    };
+    let second = words.next().ok_or(Unreadable::Missing(Field::Level))?;
     let level = read_points(second, Field::Level)?;
-    if let Some(_) = words.next() {
-        return Err(Unreadable::TooManyWords);
+    match words.next() {
+        None => Ok(Command::Strikes { family, level }),
+        Some(_) => Err(Unreadable::TooManyWords),
     }
-    Ok(Command::Strikes { family, level })
 }
 
 /// A sample, or the close where no word follows.
-fn read_sample(word: &[u8], after: Words) -> Result<u32, Unreadable>
+fn read_sample(word: &[u8], mut after: Words) -> Result<u32, Unreadable>
     ensures { IfOk result (λ n. Hundredths word.now (Ok n)) }
 {
-    let mut after = after;
-    match hundredths(word) {
-        Ok(points) => Ok(points),
-        Err(misread) => {
-            let field = if after.next().is_some() {
-                Field::Sample
-            } else {
-                Field::Close
-            };
-            Err(Unreadable::Misread(field, misread))
-        }
-    }
+    hundredths(word).map_err(|misread| {
+        let field = if after.next().is_some() {
+            Field::Sample
+        } else {
+            Field::Close
+        };
+        Unreadable::Misread(field, misread)
+    })
 }
 
 /// A family's number, which fits a byte.
 fn read_family(word: &[u8]) -> Result<u8, Unreadable>
     ensures { IfOk result (λ n. Number word.now (Ok n)) }
 {
-    match number(word) {
-        Ok(n) if n <= 255 => Ok(n as u8),
-        Ok(_) => Err(Unreadable::Misread(Field::Family, Misread::TooLarge)),
-        Err(misread) => Err(Unreadable::Misread(Field::Family, misread)),
-    }
+    number(word)
+        .and_then(|n| u8::try_from(n).map_err(|_| Misread::TooLarge))
+        .map_err(|misread| Unreadable::Misread(Field::Family, misread))
 }
 
 /// Index points, in hundredths.
 fn read_points(word: &[u8], field: Field) -> Result<u32, Unreadable>
     ensures { IfOk result (λ n. Hundredths word.now (Ok n)) }
 {
-    match hundredths(word) {
-        Ok(points) => Ok(points),
-        Err(misread) => Err(Unreadable::Misread(field, misread)),
-    }
+    hundredths(word).map_err(|misread| Unreadable::Misread(field, misread))
 }

@@ -2,7 +2,6 @@
 #![tactic(auto)]
 
 mod command;
-mod refusals;
 mod session;
 mod unreadable;
 mod words;
@@ -23,13 +22,11 @@ fn read_script(rt: &HostRuntime) -> anyhow::Result<Vec<u8>> {
         eprintln!(rt; "usage: posbook [SCRIPT]")?;
         return Err(anyhow!("more than one script"));
     }
-    match fs::read(rt, path.as_str()) {
-        Ok(script) => Ok(script),
-        Err(error) => {
-            eprintln!(rt; "posbook: cannot read {path}: {error}")?;
-            Err(error.into())
-        }
+    let script = fs::read(rt, path.as_str());
+    if let Err(error) = &script {
+        eprintln!(rt; "posbook: cannot read {path}: {error}")?;
     }
+    Ok(script?)
 }
 
 fn main(rt: HostRuntime) -> anyhow::Result<()> {

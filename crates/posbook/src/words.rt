@@ -1,8 +1,9 @@
-ghost use Rattle.std.specs.Prelude.{◌≡◌, ◌<◌, ◌≤◌, length, OnSome};
+ghost use Rattle.std.specs.Prelude.{◌≡◌, ◌-◌, length};
+ghost use Rattle.std.specs.Iterator.{at_most};
 ghost use Rattle.std.specs.Option.{option_map};
 ghost use Rattle.posbook.specs.Lines.{Next};
 
-use script::{Span, word_at};
+use script::word_at;
 
 /// The words of a line, one after the other.
 #[derive(Clone, Copy)]
@@ -18,19 +19,23 @@ impl<'a> Words<'a> {
     {
         Words { line, at: 0 }
     }
+}
 
-    /// The next word, or `None` behind the last.
-    pub(crate) fn next(&mut self) -> Option<&'a [u8]>
-        ensures same { self.new.line ≡ self.old.line }
-        ensures within { self.new.at ≤ length self.old.line.now }
-        ensures on { OnSome result (self.old.at < self.new.at) }
-        ensures word { Next self.old.line.now self.old.at (option_map (λ x. x.now) result) self.new.at }
-    {
-        let Span { start, end } = word_at(self.line, self.at);
-        self.at = end;
-        if start == end {
-            return None;
+impl<'a> Iterator for Words<'a> {
+    type Item = &'a [u8];
+
+    ghost remaining = { λ words. at_most (length words.line.now - words.at) };
+
+    ghost next_gives = { λ old word new. (new.line ≡ old.line)
+        × Next old.line.now old.at (option_map (λ x. x.now) word) new.at };
+
+    fn next(&mut self) -> Option<&'a [u8]> {
+        let word = word_at(self.line, self.at);
+        self.at = word.end;
+        if word.is_empty() {
+            None
+        } else {
+            Some(&self.line[word])
         }
-        Some(&self.line[start..end])
     }
 }

@@ -1,7 +1,8 @@
 -- What is written of a price reads as that price.
-use Rattle.std.proofs.Common.{◌≡◌, ℕ, ◌+◌, ◌*◌, ◌/◌, ◌%◌, ◌^◌, ◌<◌, [], ◌∷◌, ◌++◌, length, Ok, decimal, fold, sym, refl, ap, ◌∙◌, subst, inr, arith, rules}
+use Rattle.std.proofs.Common.{◌≡◌, ℕ, ◌+◌, ◌*◌, ◌/◌, ◌%◌, ◌^◌, ◌<◌, [], ◌∷◌, ◌++◌, length, Ok, decimal, fold, sym, refl, ap, subst, inr, arith, rules}
 use Rattle.std.proofs.lemmas.Str.Parse.{IsNumeralModel, numerals_by_fold, tells_by_index}
 use Rattle.std.proofs.lemmas.Fmt.{decimal_digit, decimal_nonempty, digits_decimal, digits_value-decimal}
+use Rattle.std.proofs.lemmas.Grind.{common_steps}
 use Rattle.script.specs.Digits.{AllDigits, Numeral, further, value}
 use Rattle.script.specs.Numbers.{after_point, Hundredths}
 use Rattle.script.specs.Points.{points_text}
@@ -15,16 +16,14 @@ numeral n h = record { some = decimal_nonempty n h; digits = digits_decimal own 
 two_digits : (a b : ℕ) → a < 10 → b < 10 → Numeral ((48 + a) ∷ (48 + b) ∷ [])
 two_digits a b h k = record {
   some = omega arith;
-  digits = tells_by_index.more (48 + a) ((48 + b) ∷ []) (omega arith, omega arith)
-      (tells_by_index.more (48 + b) [] (omega arith, omega arith) tells_by_index.empty);
+  digits = grind (arith, common_steps);
 }
 
 two_written : (a b : ℕ) → a < 10 → b < 10 → decimal a ++ decimal b ≡ (48 + a) ∷ (48 + b) ∷ []
-two_written a b h k =
-    ap (λ t. t ++ decimal b) (decimal_digit a h) ∙ ap (λ t. (48 + a) ∷ t) (decimal_digit b k)
+two_written a b h k = grind (arith, decimal_digit)
 
 two_worth : (a b : ℕ) → a < 10 → b < 10 → after_point (decimal a ++ decimal b) ≡ 10 * a + b
-two_worth a b h k = ap after_point (two_written a b h k) ∙ omega arith
+two_worth a b h k = grind (arith, two_written)
 
 pub reads_points : (n : ℕ) → n < 2 ^ 32 → Hundredths (points_text n) (Ok n)
 reads_points n h =

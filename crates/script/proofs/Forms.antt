@@ -1,45 +1,38 @@
 -- A text with a point in it: where its first point stands tells its form.
-use Rattle.std.proofs.Common.{◌≡◌, ℕ, suc, ◌+◌, ◌*◌, ◌<◌, ◌≤◌, List, ◌∷◌, ◌++◌, length, get_or, take, drop, Ok, Err, Result, sym, refl, ap, ◌∙◌, subst, inl, inr, arith}
-use Rattle.std.proofs.lemmas.List.{take-append-drop, drop_more, take_at, get_or_at, get_or_append_left, length-append, take_all, append_cancel_left}
-use Rattle.std.proofs.lemmas.Bool.{cases_lt, cases_order}
+use Rattle.std.proofs.Common.{◌≡◌, ℕ, suc, ◌+◌, ◌*◌, ◌<◌, ◌≤◌, List, ◌∷◌, ◌++◌, length, get_or, take, drop, Ok, Err, Result, refl, inl, inr, arith}
+use Rattle.std.proofs.lemmas.List.{take-append-drop, drop_more, get_or_at, get_or_append_left, take_all}
+use Rattle.std.proofs.lemmas.Grind.{common_steps}
 use Rattle.script.specs.declared.numbers.Misread.{Misread}
 use Rattle.script.specs.declared.numbers.Misread.TheVariants.{NotANumber, TooFine, TooLarge}
 use Rattle.script.specs.Digits.{Numeral, value}
-use Rattle.script.specs.Numbers.{Fitting, Decimal, after_point, Formless, Hundredths}
-
--- d is the place of the first point of w, or w's length
-pub record First (w : List ℕ) (d : ℕ) : Type 0 where
-  pub within : d ≤ length w
-  pub before : (k : ℕ) → k < d → get_or w k 0 ≡ 46 → ⊥
-  pub found : d < length w → get_or w d 0 ≡ 46
+use Rattle.script.specs.Numbers.{Fitting, Decimal, after_point, FirstPoint, Formless, Hundredths}
 
 -- a point cuts the text in two
 pub cut : (w : List ℕ) (d : ℕ) → d < length w → get_or w d 0 ≡ 46 → w ≡ take d w ++ 46 ∷ drop (d + 1) w
-cut w d h e =
-    sym (take-append-drop d w)
-    ∙ ap (λ t. take d w ++ t) (drop_more w d 0 h ∙ ap (λ x. x ∷ drop (d + 1) w) e)
+cut w d h e = grind (arith, take-append-drop, drop_more)
+
+-- a text has one first point
+one_point : (w : List ℕ) (i j : ℕ) → FirstPoint w i → FirstPoint w j → i ≡ j
+one_point w i j a b = grind arith
 
 -- a numeral has no point
-pub no_point : (w : List ℕ) (d : ℕ) → First w d → Numeral w → d ≡ length w
-no_point w d at n = elim (cases_lt d (length w)) [
-  | inl h ↦ absurd (omega (arith, at.found h, n.digits d h))
-  | inr h ↦ omega arith
-]
+pub no_point : (w : List ℕ) (d : ℕ) → FirstPoint w d → Numeral w → d ≡ length w
+no_point w d at n = grind arith
 
 -- the lengths of a text with decimals
 pub sizes : (w whole part : List ℕ) → Decimal w whole part → length w ≡ length whole + suc (length part)
-sizes w whole part d = ap length d.joined ∙ length-append whole (46 ∷ part)
+sizes w whole part d = grind (arith, common_steps)
 
 -- the point stands behind the whole points
 pub point_byte : (w whole part : List ℕ) → Decimal w whole part → get_or w (length whole) 0 ≡ 46
-point_byte w whole part d = ap (λ t. get_or t (length whole) 0) d.joined ∙ get_or_at whole 46 part 0 (length whole) refl
+point_byte w whole part d = grind (arith, common_steps, get_or_at)
 
 -- what stands before it are the whole points' digits
 pub front_byte : (w whole part : List ℕ) → Decimal w whole part → (k : ℕ) → k < length whole → get_or w k 0 ≡ get_or whole k 0
-front_byte w whole part d k h = ap (λ t. get_or t k 0) d.joined ∙ get_or_append_left whole (46 ∷ part) 0 k h
+front_byte w whole part d k h = grind (arith, get_or_append_left)
 
 -- so it is the first one
-pub first_of : (w whole part : List ℕ) → Decimal w whole part → First w (length whole)
+pub first_of : (w whole part : List ℕ) → Decimal w whole part → FirstPoint w (length whole)
 first_of w whole part d = record {
   within = omega (arith, sizes w whole part d);
   before = λ k h e. omega (arith, front_byte w whole part d k h, d.front.digits k h);
@@ -47,48 +40,34 @@ first_of w whole part d = record {
 }
 
 -- the whole points end where the first point stands
-pub point_place : (w whole part : List ℕ) (i : ℕ) → First w i → Decimal w whole part → length whole ≡ i
-point_place w whole part i at d = elim (cases_order (length whole) i) [
-  | inl e ↦ e
-  | inr (inl h) ↦ absurd (at.before (length whole) h (point_byte w whole part d))
-  | inr (inr h) ↦ absurd (omega (arith, at.found (omega (arith, sizes w whole part d)), front_byte w whole part d i h, d.front.digits i h))
-]
+pub point_place : (w whole part : List ℕ) (i : ℕ) → FirstPoint w i → Decimal w whole part → length whole ≡ i
+point_place w whole part i at d = one_point w (length whole) i (first_of w whole part d) at
 
 -- the two parts are what lies before and behind it
-pub whole_is : (w whole part : List ℕ) (i : ℕ) → First w i → Decimal w whole part → whole ≡ take i w
+pub whole_is : (w whole part : List ℕ) (i : ℕ) → FirstPoint w i → Decimal w whole part → whole ≡ take i w
 whole_is w whole part i at d =
-    sym (ap (λ t. take i t) d.joined ∙ take_at whole (46 ∷ part) i (point_place w whole part i at d))
+    let len = point_place w whole part i at d in grind (arith, common_steps)
 
-pub part_is : (w whole part : List ℕ) (i : ℕ) → First w i → Decimal w whole part → part ≡ drop (i + 1) w
+pub part_is : (w whole part : List ℕ) (i : ℕ) → FirstPoint w i → Decimal w whole part → part ≡ drop (i + 1) w
 part_is w whole part i at d =
-    let len = point_place w whole part i at d in
-    let lt : i < length w = omega (arith, sizes w whole part d) in
-    let here = cut w i lt (at.found lt) in
-    let front = whole_is w whole part i at d in
-    let two : whole ++ 46 ∷ part ≡ whole ++ 46 ∷ drop (i + 1) w = sym d.joined ∙ here ∙ ap (λ t. t ++ 46 ∷ drop (i + 1) w) (sym front) in
-    let tails : ◌≡◌ {A = List ℕ} (46 ∷ part) (46 ∷ drop (i + 1) w) = append_cancel_left whole (46 ∷ part) (46 ∷ drop (i + 1) w) two in
-    cc tails
+    let len = point_place w whole part i at d in grind (arith, common_steps, sizes)
 
 -- a text with a point, and a numeral on either side of it
-pub decimal_at : (w whole part : List ℕ) (i : ℕ) → First w i → i < length w → whole ≡ take i w → part ≡ drop (i + 1) w → Numeral whole → Numeral part → Decimal w whole part
-decimal_at w whole part i at lt e f m n = record {
-  joined = cut w i lt (at.found lt) ∙ ap (λ t. t ++ 46 ∷ drop (i + 1) w) (sym e) ∙ ap (λ t. whole ++ 46 ∷ t) (sym f);
-  front = m;
-  back = n;
-}
+pub decimal_at : (w whole part : List ℕ) (i : ℕ) → FirstPoint w i → i < length w → whole ≡ take i w → part ≡ drop (i + 1) w → Numeral whole → Numeral part → Decimal w whole part
+decimal_at w whole part i at lt e f m n = record { joined = grind (arith, cut); front = m; back = n }
 
 -- no numeral before the first point
-pub formless_front : (w whole : List ℕ) (i : ℕ) → First w i → whole ≡ take i w → (Numeral whole → ⊥) → Formless w
+pub formless_front : (w whole : List ℕ) (i : ℕ) → FirstPoint w i → whole ≡ take i w → (Numeral whole → ⊥) → Formless w
 formless_front w whole i at e none = record {
-  plain = λ n. none (subst Numeral (sym (e ∙ take_all i w (omega (arith, no_point w i at n)))) n);
-  decimal = λ a b d. none (subst Numeral (whole_is w a b i at d ∙ sym e) d.front);
+  plain = grind (arith, no_point, take_all);
+  decimal = grind (arith, whole_is);
 }
 
 -- no numeral behind it
-pub formless_back : (w part : List ℕ) (i : ℕ) → First w i → i < length w → part ≡ drop (i + 1) w → (Numeral part → ⊥) → Formless w
+pub formless_back : (w part : List ℕ) (i : ℕ) → FirstPoint w i → i < length w → part ≡ drop (i + 1) w → (Numeral part → ⊥) → Formless w
 formless_back w part i at lt e none = record {
-  plain = λ n. omega (arith, no_point w i at n);
-  decimal = λ a b d. none (subst Numeral (part_is w a b i at d ∙ sym e) d.back);
+  plain = grind (arith, no_point);
+  decimal = grind (arith, part_is);
 }
 
 -- the answer for whole points

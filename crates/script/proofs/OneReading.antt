@@ -9,19 +9,7 @@ use Rattle.script.proofs.Forms.{first_of, no_point, whole_is, part_is, sizes}
 
 -- one plain number
 pub one_number : (w : List ℕ) (r s : Result ℕ Misread) → Number w r → Number w s → r ≡ s
-one_number w (Ok m) (Ok n) h k = ap Ok (h.1 ∙ sym k.1)
-one_number w (Ok m) (Err NotANumber) h k = absurd (k h.0)
-one_number w (Ok m) (Err TooFine) h k = absurd k
-one_number w (Ok m) (Err TooLarge) h k = absurd (omega (arith, h.1, h.2, k.1))
-one_number w (Err NotANumber) (Ok n) h k = absurd (h k.0)
-one_number w (Err NotANumber) (Err NotANumber) h k = refl
-one_number w (Err NotANumber) (Err TooFine) h k = absurd k
-one_number w (Err NotANumber) (Err TooLarge) h k = absurd (h k.0)
-one_number w (Err TooFine) s h k = absurd h
-one_number w (Err TooLarge) (Ok n) h k = absurd (omega (arith, k.1, k.2, h.1))
-one_number w (Err TooLarge) (Err NotANumber) h k = absurd (k h.0)
-one_number w (Err TooLarge) (Err TooFine) h k = absurd k
-one_number w (Err TooLarge) (Err TooLarge) h k = refl
+one_number w r s h k = grind arith
 
 -- a numeral has no decimals
 apart : (w whole part : List ℕ) → Numeral w → Decimal w whole part → ⊥
@@ -48,8 +36,7 @@ writes_one w m n (inr a) (inr b) =
 
 -- a text that writes a number has a form, and is not over fine
 formed : (w : List ℕ) (n : ℕ) → Writes w n → Formless w → ⊥
-formed w n (inl a) f = f.plain a.whole
-formed w n (inr a) f = f.decimal a.whole a.part a.form
+formed w n h f = grind arith
 
 not_over : (w : List ℕ) (n : ℕ) → Writes w n → OverFine w → ⊥
 not_over w n (inl a) o = apart w o.whole o.part a.whole o.form
@@ -57,22 +44,22 @@ not_over w n (inr a) o =
     omega (arith, ap length (same_part w a.whole a.part o.whole o.part a.form o.form))
 
 over_formed : (w : List ℕ) → OverFine w → Formless w → ⊥
-over_formed w o f = f.decimal o.whole o.part o.form
+over_formed w o f = grind arith
+
+-- a text that gives a number is not refused
+not_both : (w : List ℕ) (n : ℕ) (e : Misread) → Hundredths w (Ok n) → Hundredths w (Err e) → ⊥
+not_both w n NotANumber h k = formed w n h.0 k
+not_both w n TooFine h k = not_over w n h.0 k
+not_both w n TooLarge h k = omega (arith, writes_one w k.0 n k.1 h.0, h.1, k.2)
 
 pub one_reading : (w : List ℕ) (r s : Result ℕ Misread) → Hundredths w r → Hundredths w s → r ≡ s
 one_reading w (Ok m) (Ok n) h k = ap Ok (writes_one w m n h.0 k.0)
-one_reading w (Ok m) (Err NotANumber) h k = absurd (formed w m h.0 k)
-one_reading w (Ok m) (Err TooFine) h k = absurd (not_over w m h.0 k)
-one_reading w (Ok m) (Err TooLarge) h k = absurd (omega (arith, writes_one w m k.0 h.0 k.1, h.1, k.2))
-one_reading w (Err NotANumber) (Ok n) h k = absurd (formed w n k.0 h)
-one_reading w (Err NotANumber) (Err NotANumber) h k = refl
-one_reading w (Err NotANumber) (Err TooFine) h k = absurd (over_formed w k h)
-one_reading w (Err NotANumber) (Err TooLarge) h k = absurd (formed w k.0 k.1 h)
-one_reading w (Err TooFine) (Ok n) h k = absurd (not_over w n k.0 h)
+one_reading w (Ok m) (Err e) h k = absurd (not_both w m e h k)
+one_reading w (Err e) (Ok n) h k = absurd (not_both w n e k h)
+one_reading w (Err NotANumber) (Err e) h k = grind (arith, formed, over_formed)
 one_reading w (Err TooFine) (Err NotANumber) h k = absurd (over_formed w h k)
 one_reading w (Err TooFine) (Err TooFine) h k = refl
 one_reading w (Err TooFine) (Err TooLarge) h k = absurd (not_over w k.0 k.1 h)
-one_reading w (Err TooLarge) (Ok n) h k = absurd (omega (arith, writes_one w h.0 n h.1 k.0, h.2, k.1))
 one_reading w (Err TooLarge) (Err NotANumber) h k = absurd (formed w h.0 h.1 k)
 one_reading w (Err TooLarge) (Err TooFine) h k = absurd (not_over w h.0 h.1 k)
 one_reading w (Err TooLarge) (Err TooLarge) h k = refl

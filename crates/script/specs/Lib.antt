@@ -3,3 +3,4 @@ pub mod Words
 pub mod Digits
 pub mod Numbers
 pub mod Points
+pub mod Texts

@@ -1,5 +1,5 @@
 -- Which text gives which number, and what is refused.
-use Rattle.std.specs.Prelude.{◌≡◌, ℕ, ◌+◌, ◌*◌, ◌^◌, ◌<◌, ◌≤◌, cond, ◌⊎◌, List, ◌∷◌, ◌++◌, length, Ok, Err, Result, ◌==◌}
+use Rattle.std.specs.Prelude.{◌≡◌, ℕ, ◌+◌, ◌*◌, ◌^◌, ◌<◌, ◌≤◌, cond, ◌⊎◌, List, ◌∷◌, ◌++◌, length, Ok, Err, Result, ◌==◌, ◌≢◌, slice_index}
 use Rattle.script.specs.declared.numbers.Misread.{Misread}
 use Rattle.script.specs.declared.numbers.Misread.TheVariants.{NotANumber, TooFine, TooLarge}
 use Rattle.script.specs.Digits.{Numeral, value}
@@ -17,6 +17,12 @@ Number w (Ok n) = Numeral w × (n ≡ value w) × (n < 2 ^ 32)
 Number w (Err NotANumber) = Numeral w → ⊥
 Number w (Err TooFine) = ⊥
 Number w (Err TooLarge) = Numeral w × (2 ^ 32 ≤ value w)
+
+-- The place of a text's first point (46), or the text's length where there is none.
+pub record FirstPoint (w : List ℕ) (place : ℕ) : Type 0 where
+  pub within : place ≤ length w
+  pub before : (k : ℕ) → k < place → slice_index w k ≢ 46
+  pub found : place < length w → slice_index w place ≡ 46
 
 -- Points with decimals: a numeral, a point (46) and a numeral.
 pub record Decimal (w whole part : List ℕ) : Type 0 where

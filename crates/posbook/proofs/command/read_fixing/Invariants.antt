@@ -1,4 +1,4 @@
-use Rattle.std.proofs.Common.{◌≡◌, ℕ, ◌-◌, List, [], ◌∷◌, ◌++◌, length, vec_items}
+use Rattle.std.proofs.Common.{◌≡◌, ℕ, List, ◌∷◌, ◌++◌, [], vec_items}
 use Rattle.posbook.specs.Lines.{Words}
 use Rattle.posbook.specs.Commands.{Prices}
 use Rattle.posbook.proofs.command.read_fixing.Given as goal
@@ -11,6 +11,3 @@ invariant-loop-word l =
     × Words l.initial.words.line.now l.initial.words.at ws l.words.at
     × Prices ws qs
     × (l.initial.close ∷ qs ≡ vec_items l.samples ++ l.close ∷ []))
-
-abbrev pub decreases-loop-word : goal.decreases-loop-word
-decreases-loop-word l = length l.words.line.now - l.words.at

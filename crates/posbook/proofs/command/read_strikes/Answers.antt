@@ -1,18 +1,21 @@
-use Rattle.std.proofs.Common.{Some, None, ap, ◌∙◌}
-use Rattle.posbook.proofs.Saying.{at_line, strikes_behind}
+use Rattle.std.proofs.Common.{Some, None, refl, ◌∙◌}
+use Rattle.posbook.proofs.Saying.{read, strikes_behind}
 use Rattle.posbook.proofs.command.read_strikes.Goals as goal
 
-pub returns : goal.returns
-returns c =
-    let one = c.in-Some.ensures in
-    let two = c.in-Some-next.ensures in
-    let end = c.in_default-next-2.ensures in
+pub returns-in-None : goal.returns-in-None
+returns-in-None c =
+    let line = c.args.words.line in
+    let start = c.args.words.at in
     let a = c.next.new.self.at in
     let b = c.next-2.new.self.at in
     let e = c.next-3.new.self.at in
-    strikes_behind c.args.words.line.now c.args.words.at a b e
-    c.in-Some.first.now c.in-Some-next.second.now c.in_ok-family.family c.in_ok-level.level
-    one.word
-    (at_line (Some c.in-Some-next.second.now) a b (ap (λ r. r.now) one.same) two.word)
-    (at_line None b e (ap (λ r. r.now) (two.same ∙ one.same)) end.word)
+    let one = c.next.ensures.steps in
+    let two = c.next-2.ensures.steps in
+    let end = c.in-None.ensures.steps in
+    let v = c.in_ok-first.first in
+    let w = c.in_ok-second.second in
+    strikes_behind line.now start a b e v.now w.now c.in_ok-family.family c.in_ok-level.level
+    (read line start a (Some v) refl c.in_ok-first.ensures.ok_part one.1)
+    (read line a b (Some w) one.0 c.in_ok-second.ensures.ok_part two.1)
+    (read line b e None (two.0 ∙ one.0) refl end.1)
     c.in_ok-family.ensures c.in_ok-level.ensures

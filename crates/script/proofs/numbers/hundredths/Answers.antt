@@ -1,67 +1,49 @@
-use Rattle.std.proofs.Common.{◌≡◌, ℕ, ◌+◌, ◌-◌, ◌*◌, List, length, take, drop, Err, ap, subst, arith}
+use Rattle.std.proofs.Common.{◌≡◌, ◌+◌, ◌*◌, ◌∙◌, Err, refl, subst, arith}
+use Rattle.std.proofs.lemmas.Result.{err_from_is_err_and}
 use Rattle.std.proofs.lemmas.List.{take_rest, take_all}
 use Rattle.script.specs.declared.numbers.Misread.TheVariants.{NotANumber, TooFine}
 use Rattle.script.specs.Digits.{Numeral, value}
 use Rattle.script.specs.Numbers.{Fitting}
-use Rattle.script.proofs.Forms.{First, formless_front, formless_back, decimal_at, whole_points, fine_points}
+use Rattle.script.proofs.Forms.{formless_front, formless_back, decimal_at, whole_points, fine_points}
 use Rattle.script.proofs.OneReading.{only_reading}
 use Rattle.script.proofs.numbers.hundredths.Goals as goal
 
--- the first bytes as `&word[0..n]` has them
-front : (w : List ℕ) (n : ℕ) → take (n - 0) w ≡ take n w
-front w n = let e : n - 0 ≡ n = omega arith in ap (λ k. take k w) e
-
-pub returns-then-not-is_numeral : goal.returns-then-not-is_numeral
-returns-then-not-is_numeral c =
-    let w = c.args.word.now in
-    let i = c.point_place-point.result in
-    let point = c.point_place-point.ensures in
-    let at : First w i = record { within = point.within; before = point.before; found = point.found } in
-    only_reading w (Err NotANumber)
-    (formless_front w (take (i - 0) w) i at (front w i) c.if-not-is_numeral.ensures)
+pub returns-in_err-whole : goal.returns-in_err-whole
+returns-in_err-whole c =
+    let p = err_from_is_err_and c.from_residual.result c.from_residual.ensures.1 in
+    let none = c.in_err-whole.ensures in
+    rw (p.1, p.2, none.0) (only_reading _ (Err NotANumber) (formless_front _ _ _ c.point_place-point.ensures refl none.1))
 
 pub returns-then-point-word : goal.returns-then-point-word
 returns-then-point-word c =
     let w = c.args.word.now in
-    let r = c.in_hundredths.result in
-    let same : take (c.point_place-point.result - 0) w ≡ w = take_all (c.point_place-point.result - 0) w (omega arith) in
-    only_reading w r
-    (whole_points w r
-    (subst Numeral same c.if-not-is_numeral.ensures)
-    (subst (λ t. Fitting (100 * value t + 0) r) same c.in_hundredths.ensures))
+    let whole = c.in_ok-whole.whole in
+    let same : whole.word.now ≡ w = c.in_ok-whole.ensures ∙ take_all _ w (omega arith) in
+    only_reading w _ (whole_points w _ (subst Numeral same whole.numeral) (subst (λ t. Fitting (100 * value t + 0) c.in_hundredths.result) same c.in_hundredths.ensures))
 
-pub returns-then-not-is_numeral-2 : goal.returns-then-not-is_numeral-2
-returns-then-not-is_numeral-2 c =
+pub returns-in_err-part : goal.returns-in_err-part
+returns-in_err-part c =
+    let p = err_from_is_err_and c.from_residual-in_err-part.result c.from_residual-in_err-part.ensures.1 in
+    let none = c.in_err-part.ensures in
     let w = c.args.word.now in
-    let i = c.point_place-point.result in
-    let point = c.point_place-point.ensures in
-    let at : First w i = record { within = point.within; before = point.before; found = point.found } in
-    let b = take (length w - (i + 1)) (drop (i + 1) w) in
-    only_reading w (Err NotANumber)
-    (formless_back w b i at (omega arith) (take_rest w (i + 1)) c.if-not-is_numeral-2.ensures)
+    rw (p.1, p.2, none.0) (only_reading _ (Err NotANumber) (formless_back w _ _ c.point_place-point.ensures (omega arith) (take_rest w _) none.1))
 
-pub returns-then-part-gt-MOST_DECIMALS : goal.returns-then-part-gt-MOST_DECIMALS
-returns-then-part-gt-MOST_DECIMALS c =
+pub returns-in_err-after_point : goal.returns-in_err-after_point
+returns-in_err-after_point c =
+    let p = err_from_is_err_and c.from_residual-in_err-after_point.result c.from_residual-in_err-after_point.ensures.1 in
+    let fine = c.in_err-after_point.ensures in
     let w = c.args.word.now in
-    let i = c.point_place-point.result in
-    let point = c.point_place-point.ensures in
-    let at : First w i = record { within = point.within; before = point.before; found = point.found } in
-    let a = take (i - 0) w in
-    let b = take (length w - (i + 1)) (drop (i + 1) w) in
-    let form = decimal_at w a b i at (omega arith) (front w i) (take_rest w (i + 1)) c.if-not-is_numeral.ensures c.if-not-is_numeral-2.ensures in
-    only_reading w (Err TooFine)
-    (record { whole = a; part = b; form = form; long = c.if-part-gt-MOST_DECIMALS.true })
+    let whole = c.in_ok-whole.whole in
+    let part = c.in_ok-part.part in
+    let form = decimal_at w whole.word.now part.word.now _ c.point_place-point.ensures (omega arith) c.in_ok-whole.ensures (c.in_ok-part.ensures ∙ take_rest w _) whole.numeral part.numeral in
+    rw (p.1, p.2, fine.0) (only_reading _ (Err TooFine) (record { whole = whole.word.now; part = part.word.now; form = form; long = fine.1 }))
 
 pub returns : goal.returns
 returns c =
     let w = c.args.word.now in
-    let i = c.point_place-point.result in
-    let point = c.point_place-point.ensures in
-    let at : First w i = record { within = point.within; before = point.before; found = point.found } in
-    let a = take (i - 0) w in
-    let b = take (length w - (i + 1)) (drop (i + 1) w) in
+    let whole = c.in_ok-whole.whole in
+    let part = c.in_ok-part.part in
+    let form = decimal_at w whole.word.now part.word.now _ c.point_place-point.ensures (omega arith) c.in_ok-whole.ensures (c.in_ok-part.ensures ∙ take_rest w _) whole.numeral part.numeral in
+    let fine = c.in_ok-after_point.ensures in
     let r = c.in_hundredths-2.result in
-    let form = decimal_at w a b i at (omega arith) (front w i) (take_rest w (i + 1)) c.if-not-is_numeral.ensures c.if-not-is_numeral-2.ensures in
-    only_reading w r
-    (fine_points w a b r form c.if-part-gt-MOST_DECIMALS.false
-    (subst (λ x. Fitting (100 * value a + x) r) c.decimals.ensures.worth c.in_hundredths-2.ensures))
+    only_reading w r (fine_points w _ _ r form fine.0 (subst (λ x. Fitting (100 * value whole.word.now + x) r) fine.1 c.in_hundredths-2.ensures))

@@ -1,4 +1,4 @@
-ghost use Rattle.std.specs.Prelude.{◌≡◌, ◌-◌, ◌*◌, ◌≤◌, ◌==◌};
+ghost use Rattle.std.specs.Prelude.{◌≡◌, ◌-◌, ◌*◌, ◌≤◌, [], ◌==◌};
 ghost use Rattle.tariffs.specs.Allowed.{allowed_price, allowed_after, lower_traded, TakesFromOne, covered, trade_fee};
 ghost use Rattle.tariffs.specs.Entries.{spent};
 ghost use Rattle.tariffs.specs.Calls.{Reduces, SetsLeft, read_left};
@@ -26,7 +26,7 @@ impl<L> Allowance<L> {
     /// An allowance without entries, its reduced rate 0.
     pub fn new(lower: L) -> Allowance<L>
         ensures reduced { result.reduced.cents ≡ 0 }
-        ensures entries { result.entries.used ≡ 0 }
+        ensures entries { result.entries.list.items ≡ [] }
         ensures lower { result.lower ≡ lower }
     {
         Allowance {
@@ -40,7 +40,7 @@ impl<L> Allowance<L> {
     pub fn set_reduced(&mut self, cents: u32) -> Result<(), Refusal>
         ensures { Reduces self.old cents self.new result }
     {
-        self.reduced = Rate::numbered(cents)?;
+        self.reduced = Rate::try_from(cents)?;
         Ok(())
     }
 
@@ -119,6 +119,7 @@ impl<L: Tariff> Tariff for Allowance<L> {
         }
     }
 
+    #[tactic(auto, using(crate::proofs::Remaining::takes_one))]
     fn charge(&mut self, side: &Side)
         ensures standing { self.new ≡ allowed_after (L.Tariff.after self.old.lower) self.old side.now }
         ensures one { TakesFromOne self.old.entries side.now.account self.new.entries }

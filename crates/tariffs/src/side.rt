@@ -11,14 +11,14 @@ pub(crate) const LAST_ACCOUNT: u16 = 65_534;
 pub(crate) const MOST_CONTRACTS: u32 = 1_000_000;
 
 /// What a side is charged for.
-#[derive(Clone, Copy)]
+#[derive(Clone, Copy, PartialEq, Eq, Debug)]
 pub enum Event {
     Trade,
     Exercise,
 }
 
 /// One account's side of a trade or an exercise.
-#[derive(Clone, Copy)]
+#[derive(Clone, Copy, PartialEq, Eq, Debug)]
 pub struct Side {
     pub account: u16,
     pub account_kind: AccountKind,
@@ -28,11 +28,13 @@ pub struct Side {
     pub count: u32,
 }
 
-impl Event {
+impl TryFrom<u8> for Event {
+    type Error = Refusal;
+
+    ghost try_from_gives = { Numbered (λ n. n < 2) event_number };
+
     /// The event with this number: 0 for a trade, 1 for an exercise.
-    pub fn numbered(number: u8) -> Result<Event, Refusal>
-        ensures { Numbered (λ n. n < 2) event_number number result }
-    {
+    fn try_from(number: u8) -> Result<Event, Refusal> {
         match number {
             0 => Ok(Event::Trade),
             1 => Ok(Event::Exercise),

@@ -10,9 +10,9 @@ ghost use Rattle.tariffs.specs.Bounds.{fee_le, within_le, event_le, parts_le};
 
 use crate::entries::Entries;
 use crate::rate::Rate;
-use crate::side::{Event, LAST_ACCOUNT, Side};
+use crate::side::{Event, Side};
 use crate::tariff::Tariff;
-use terms::{Reason, Refusal};
+use terms::{AccountNumber, Refusal};
 
 /// Some contracts of an account at a reduced rate, before a lower tariff prices the others.
 #[derive(Drop)]
@@ -55,10 +55,8 @@ impl<L> Allowance<L> {
     pub fn left(&self, account: u16) -> Result<u32, Refusal>
         ensures { result ≡ read_left self.now.entries account }
     {
-        if account > LAST_ACCOUNT {
-            return Err(Refusal::plain(Reason::OutOfRange));
-        }
-        Ok(self.entries.left(account))
+        let account = AccountNumber::try_from(account)?;
+        Ok(self.entries.left(account.number()))
     }
 }
 

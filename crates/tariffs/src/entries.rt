@@ -1,9 +1,9 @@
 ghost use Rattle.std.specs.Prelude.{◌≡◌, ◌<◌, min, [], length, IfSome};
 ghost use Rattle.tariffs.specs.Entries.{entry_of, left as left_of, lowered, spent, Settles};
 
-use crate::side::{LAST_ACCOUNT, MOST_CONTRACTS};
+use crate::side::MOST_CONTRACTS;
 use arrayvec::ArrayVec;
-use terms::{Reason, Refusal};
+use terms::{AccountNumber, Reason, Refusal};
 
 /// How many accounts may have an entry.
 const PLACES: usize = 64;
@@ -73,10 +73,14 @@ impl Entries {
     pub(crate) fn set(&mut self, account: u16, left: u32) -> Result<(), Refusal>
         ensures { Settles self.old account left self.new result }
     {
-        if account > LAST_ACCOUNT || left > MOST_CONTRACTS {
+        let number = AccountNumber::try_from(account)?;
+        if left > MOST_CONTRACTS {
             return Err(Refusal::plain(Reason::OutOfRange));
         }
-        let entry = Entry { account, left };
+        let entry = Entry {
+            account: number.number(),
+            left,
+        };
         match self.find(account) {
             Some(i) => self.list[i] = entry,
             None if self.list.is_full() => return Err(Refusal::plain(Reason::AllowanceFull)),

@@ -12,6 +12,7 @@ pub(crate) struct Rate {
     ghost most: { cents ≤ 100000 },
 }
 
+/// The rate of so many cents.
 impl TryFrom<u32> for Rate {
     ghost use Rattle.terms.specs.Numbers.{Numbered};
     ghost use Rattle.tariffs.specs.Rates.{RateRange};
@@ -20,7 +21,6 @@ impl TryFrom<u32> for Rate {
 
     ghost try_from_gives = { Numbered RateRange (λ rate. rate.cents) };
 
-    /// The rate of so many cents.
     fn try_from(cents: u32) -> Result<Rate, Refusal> {
         if cents > HIGHEST {
             return Err(Refusal::plain(Reason::OutOfRange));

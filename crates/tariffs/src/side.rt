@@ -2,10 +2,7 @@ ghost use Rattle.std.specs.Prelude.{◌≡◌, ℕ, ◌<◌};
 ghost use Rattle.terms.specs.Numbers.{Numbered};
 ghost use Rattle.tariffs.specs.Sides.{event_number, within, counting};
 
-use terms::{AccountKind, Reason, Refusal, SeriesKind, Size};
-
-/// The highest account number.
-pub(crate) const LAST_ACCOUNT: u16 = 65_534;
+use terms::{AccountKind, NO_ACCOUNT, Reason, Refusal, SeriesKind, Size};
 
 /// The most contracts of one side.
 pub(crate) const MOST_CONTRACTS: u32 = 1_000_000;
@@ -28,12 +25,12 @@ pub struct Side {
     pub count: u32,
 }
 
+/// The event with this number: 0 for a trade, 1 for an exercise.
 impl TryFrom<u8> for Event {
     type Error = Refusal;
 
     ghost try_from_gives = { Numbered (λ n. n < 2) event_number };
 
-    /// The event with this number: 0 for a trade, 1 for an exercise.
     fn try_from(number: u8) -> Result<Event, Refusal> {
         match number {
             0 => Ok(Event::Trade),
@@ -48,7 +45,7 @@ impl Side {
     pub(crate) fn in_range(&self) -> bool
         ensures { result ≡ within self.now }
     {
-        self.account <= LAST_ACCOUNT && 1 <= self.count && self.count <= MOST_CONTRACTS
+        self.account != NO_ACCOUNT && (1..=MOST_CONTRACTS).contains(&self.count)
     }
 
     // The same side with so many contracts.

@@ -4,16 +4,15 @@ ghost use Rattle.ledger.specs.Calls.{admit, list, close, mark, delta};
 ghost use Rattle.ledger.specs.Judge.{judge_opening};
 ghost use Rattle.ledger.specs.Numbers.{family_of};
 ghost use Rattle.ledger.specs.Runs.{standing_after};
-ghost use Rattle.tables.specs.Model.{spaces_of, bare, Judges, numbers};
+ghost use Rattle.tables.specs.Opening.{spaces_in};
+ghost use Rattle.tables.specs.Model.{spaces_of, bare, Judges, numbered};
 ghost use Rattle.trading.specs.Deals.{trade_of, event_of};
 ghost use Rattle.book.specs.Sealed.{book_of, Law, Answers, Enters};
 
 use crate::sealed::Book;
 use fixings::ClosedFixing;
-use ledger::{Account, Terms};
-use positions::Position;
-use registers::Slots;
-use tables::Tables;
+use series::SeriesNumbers;
+use tables::{Space, Tables};
 use tariffs::Tariff;
 use terms::{Family, Refusal};
 use trading::Trade;
@@ -21,17 +20,12 @@ use trading::Trade;
 impl Book {
     /// An empty book for a family, over the supplied space. Any number and any space makes a book; one that may not be
     /// used refuses every call.
-    pub fn open(
-        family: u8,
-        accounts: Slots<Account>,
-        series: Slots<Terms>,
-        positions: Slots<Position>,
-    ) -> Book
-        ensures book { book_of result ≡ opened family (record { accounts = accounts.room; series = series.room; positions = positions.room }) }
+    pub fn open(family: u8, space: Space) -> Book
+        ensures book { book_of result ≡ opened family (spaces_in space) }
         ensures law { Law result }
     {
         Book {
-            tables: Tables::open(family, accounts, series, positions),
+            tables: Tables::open(family, space),
         }
     }
 
@@ -50,10 +44,10 @@ impl Book {
     }
 
     /// Lists a future with its first mark, or an option with its first delta.
-    pub fn list(&mut self, kind: u8, month: u16, strike: u32, first: i32) -> Result<(), Refusal>
-        ensures { Answers (bare (list (numbers kind month strike) first)) self.old self.new result }
+    pub fn list(&mut self, numbers: SeriesNumbers, first: i32) -> Result<(), Refusal>
+        ensures { Answers (bare (list (numbered numbers) first)) self.old self.new result }
     {
-        entering::list(&mut self.tables, kind, month, strike, first)
+        entering::list(&mut self.tables, numbers, first)
     }
 
     /// Trades so many contracts from the seller to the buyer, at the tariff's prices, which moves its standing.
@@ -65,17 +59,10 @@ impl Book {
     }
 
     /// Closes `count` fulls against five times as many minis of opposite sign in an account's position.
-    pub fn close(
-        &mut self,
-        kind: u8,
-        month: u16,
-        strike: u32,
-        account: u16,
-        count: u32,
-    ) -> Result<(), Refusal>
-        ensures { Answers (bare (close (numbers kind month strike) account count)) self.old self.new result }
+    pub fn close(&mut self, numbers: SeriesNumbers, account: u16, count: u32) -> Result<(), Refusal>
+        ensures { Answers (bare (close (numbered numbers) account count)) self.old self.new result }
     {
-        entering::close(&mut self.tables, kind, month, strike, account, count)
+        entering::close(&mut self.tables, numbers, account, count)
     }
 
     /// Moves the mark of a month's future to a price, in hundredths of a point: each position in it gets the difference.
@@ -86,10 +73,10 @@ impl Book {
     }
 
     /// Gives an option a new delta, in ten-thousandths.
-    pub fn delta(&mut self, kind: u8, month: u16, strike: u32, value: i32) -> Result<(), Refusal>
-        ensures { Answers (bare (delta (numbers kind month strike) value)) self.old self.new result }
+    pub fn delta(&mut self, numbers: SeriesNumbers, value: i32) -> Result<(), Refusal>
+        ensures { Answers (bare (delta (numbered numbers) value)) self.old self.new result }
     {
-        entering::delta(&mut self.tables, kind, month, strike, value)
+        entering::delta(&mut self.tables, numbers, value)
     }
 
     /// Gives a closed fixing to a month, which fixes its final price. A refusal gives the fixing back.

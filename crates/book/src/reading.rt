@@ -17,10 +17,10 @@ impl Book {
     pub fn account(&self, account: u16) -> Result<Account, Refusal>
         ensures { result ≡ ok_or (lookup (book_of self.now).accounts account) (about Absent account) }
     {
-        match self.tables.accounts.read(u64::from(account)) {
-            Some(found) => return Ok(found),
-            None => return Err(Refusal::about(Reason::Absent, account)),
-        }
+        self.tables
+            .accounts
+            .read(u64::from(account))
+            .ok_or(Refusal::about(Reason::Absent, account))
     }
 
     /// The exchange's cash balance.

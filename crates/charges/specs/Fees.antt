@@ -1,5 +1,5 @@
 -- The fees of sides, all in one standing.
-use Rattle.std.specs.Prelude.{ℕ, cond, List, [], ◌∷◌, ◌++◌, length, drop, Some, None, Ok, Err, Option, Result, nat_lt}
+use Rattle.std.specs.Prelude.{ℕ, ◌+◌, ◌*◌, ◌≤◌, cond, List, [], ◌∷◌, ◌++◌, length, drop, sum_by, sum, IfOk, OnOk, Some, None, Ok, Err, Option, Result, nat_lt}
 use Rattle.terms.specs.declared.refusal.Reason.TheVariants.{NoSpace, NoRate}
 use Rattle.terms.specs.declared.refusal.Refusal.{Refusal}
 use Rattle.terms.specs.Refusals.{plain, about}
@@ -20,6 +20,10 @@ pair (Ok x) (Ok y) = Ok (x, y)
 abbrev pub rated_both : (Side → Option ℕ) → Side → Side → Result (ℕ × ℕ) Refusal
 rated_both price buyer seller = pair (rated (price buyer) buyer.account) (rated (price seller) seller.account)
 
+-- both fees together are at most 100,000 cents a contract
+abbrev pub BothBounded : Side → Side → Result (ℕ × ℕ) Refusal → Type 0
+BothBounded buyer seller r = IfOk r (λ fees. fees.0 + fees.1 ≤ (buyer.count + seller.count) * 100000)
+
 -- the standing moves only where there is no refusal
 abbrev pub on_ok : {S R : Type 0} → Result R Refusal → S → S → S
 on_ok (Ok _) moved before = moved
@@ -33,6 +37,10 @@ first (Some fee) later = fee ∷ later
 abbrev pub fees_of : (Side → Option ℕ) → List Side → List ℕ
 fees_of price [] = []
 fees_of price (s ∷ ss) = first (price s) (fees_of price ss)
+
+-- all fees together are at most 100,000 cents a contract
+abbrev pub AllBounded : (Side → Option ℕ) → List Side → Result (Unit {0}) Refusal → Type 0
+AllBounded price sides r = OnOk r (sum (fees_of price sides) ≤ sum_by (λ s. s.count) sides * 100000)
 
 abbrev pub unless : Result ℕ Refusal → Result (Unit {0}) Refusal → Result (Unit {0}) Refusal
 unless (Err e) later = Err e

@@ -1,6 +1,6 @@
-ghost use Rattle.std.specs.Prelude.{◌≡◌, ◌*◌, ◌≤◌, length, fold, sum_by, sum, OnOk};
+ghost use Rattle.std.specs.Prelude.{◌≡◌, ◌≤◌, length, fold};
 ghost use Rattle.tariffs.specs.declared.side.Side.{Side};
-ghost use Rattle.charges.specs.Fees.{on_ok, fees_of, rated_all, in_front, answer, written};
+ghost use Rattle.charges.specs.Fees.{on_ok, fees_of, rated_all, in_front, answer, written, AllBounded};
 
 use crate::one::fee_of;
 use tariffs::{Side, Tariff};
@@ -10,7 +10,7 @@ use terms::{Reason, Refusal};
 pub fn quote_all<T: Tariff>(tariff: &T, sides: &[Side], fees: &mut [u64]) -> Result<(), Refusal>
     ensures answer { result ≡ answer (T.Tariff.price tariff.now) sides.now fees.old }
     ensures written { fees.new ≡ written (T.Tariff.price tariff.now) sides.now fees.old }
-    ensures bound { OnOk result (sum (fees_of (T.Tariff.price tariff.now) sides.now) ≤ sum_by (λ s. s.count) sides.now * 100000) }
+    ensures bound { AllBounded (T.Tariff.price tariff.now) sides.now result }
 {
     if fees.len() < sides.len() {
         return Err(Refusal::plain(Reason::NoSpace));
@@ -23,8 +23,8 @@ fn write_fees<T: Tariff>(tariff: &T, sides: &[Side], fees: &mut [u64]) -> Result
     requires { length sides.now ≤ length fees.old }
     ensures answer { result ≡ rated_all (T.Tariff.price tariff.now) sides.now }
     ensures written { fees.new ≡ in_front (fees_of (T.Tariff.price tariff.now) sides.now) fees.old }
-    ensures bound { sum (fees_of (T.Tariff.price tariff.now) sides.now) ≤ sum_by (λ s. s.count) sides.now * 100000 }
 {
+    // By index: after `iter_mut().zip(..)` no contract says what was written.
     for (i, side) in sides.iter().enumerate() {
         let fee = fee_of(tariff, side)?;
         fees[i] = fee;
@@ -33,6 +33,7 @@ fn write_fees<T: Tariff>(tariff: &T, sides: &[Side], fees: &mut [u64]) -> Result
 }
 
 /// Charges the sides in order. A tariff that no charge moves stays as it was.
+#[tactic(auto, using(crate::proofs::Steps::never_moves))]
 pub fn charge_each<T: Tariff>(tariff: &mut T, sides: &[Side])
     ensures standing { tariff.new ≡ fold T.Tariff.after tariff.old sides.now }
     ensures unmoved { ((s : Side) → T.Tariff.after tariff.old s ≡ tariff.old) → tariff.new ≡ tariff.old }
@@ -50,7 +51,7 @@ pub fn charge_all<T: Tariff>(
 ) -> Result<(), Refusal>
     ensures answer { result ≡ answer (T.Tariff.price tariff.old) sides.now fees.old }
     ensures written { fees.new ≡ written (T.Tariff.price tariff.old) sides.now fees.old }
-    ensures bound { OnOk result (sum (fees_of (T.Tariff.price tariff.old) sides.now) ≤ sum_by (λ s. s.count) sides.now * 100000) }
+    ensures bound { AllBounded (T.Tariff.price tariff.old) sides.now result }
     ensures standing { tariff.new ≡ on_ok result (fold T.Tariff.after tariff.old sides.now) tariff.old }
 {
     quote_all(tariff, sides, fees)?;

@@ -1,6 +1,6 @@
-ghost use Rattle.std.specs.Prelude.{◌≡◌, ◌+◌, ◌*◌, ◌≤◌, IfOk};
+ghost use Rattle.std.specs.Prelude.{◌≡◌};
 ghost use Rattle.tariffs.specs.declared.side.Side.{Side};
-ghost use Rattle.charges.specs.Fees.{rated_both, on_ok};
+ghost use Rattle.charges.specs.Fees.{rated_both, on_ok, BothBounded};
 
 use crate::one::fee_of;
 use tariffs::{Side, Tariff};
@@ -9,7 +9,7 @@ use terms::Refusal;
 /// The fees of the buyer and of the seller of a trade.
 pub fn quote_both<T: Tariff>(tariff: &T, buyer: &Side, seller: &Side) -> Result<(u64, u64), Refusal>
     ensures answer { result ≡ rated_both (T.Tariff.price tariff.now) buyer.now seller.now }
-    ensures bound { IfOk result (λ fees. fees.0 + fees.1 ≤ (buyer.now.count + seller.now.count) * 100000) }
+    ensures bound { BothBounded buyer.now seller.now result }
 {
     let bought = fee_of(tariff, buyer)?;
     let sold = fee_of(tariff, seller)?;
@@ -23,7 +23,7 @@ pub fn charge_both<T: Tariff>(
     seller: &Side,
 ) -> Result<(u64, u64), Refusal>
     ensures answer { result ≡ rated_both (T.Tariff.price tariff.old) buyer.now seller.now }
-    ensures bound { IfOk result (λ fees. fees.0 + fees.1 ≤ (buyer.now.count + seller.now.count) * 100000) }
+    ensures bound { BothBounded buyer.now seller.now result }
     ensures standing { tariff.new ≡ on_ok result (T.Tariff.after (T.Tariff.after tariff.old buyer.now) seller.now) tariff.old }
 {
     let fees = quote_both(tariff, buyer, seller)?;

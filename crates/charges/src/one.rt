@@ -10,8 +10,7 @@ pub fn fee_of<T: Tariff>(tariff: &T, side: &Side) -> Result<u64, Refusal>
     ensures answer { result ≡ rated (T.Tariff.price tariff.now side.now) side.now.account }
     ensures bound { IfOk result (λ fee. fee ≤ side.now.count * 100000) }
 {
-    match tariff.quote(side) {
-        Some(fee) => Ok(fee),
-        None => Err(Refusal::about(Reason::NoRate, side.account)),
-    }
+    tariff
+        .quote(side)
+        .ok_or(Refusal::about(Reason::NoRate, side.account))
 }

@@ -28,39 +28,27 @@ fn two_allowances() -> Result<Allowance<Allowance<Listing>>, Refusal> {
     Ok(upper)
 }
 
-fn number<T: Drop>(answer: Result<T, Refusal>) -> u8 {
-    match answer {
-        Ok(_) => 0,
-        Err(refusal) => refusal.reason.number(),
-    }
-}
-
 #[test]
 fn an_allowance_stands_over_an_allowance(rt: HostRuntime) -> Result<(), Fail> {
-    let Ok(mut tariff) = two_allowances() else {
-        return Err(Fail::new("refused"));
-    };
-    assert_eq!(rt; fee_of(&tariff, &trade(7, 5)).ok(), Some(2_500));
+    let mut tariff = two_allowances()?;
+    assert_eq!(rt; fee_of(&tariff, &trade(7, 5)), Ok(2_500));
     let fees = charge_both(&mut tariff, &trade(7, 2), &trade(8, 2));
-    assert_eq!(rt; fees.ok(), Some((300, 2_000)));
-    assert_eq!(rt; tariff.left(7).ok(), Some(0));
-    assert_eq!(rt; fee_of(&tariff, &trade(7, 5)).ok(), Some(4_200));
+    assert_eq!(rt; fees, Ok((300, 2_000)));
+    assert_eq!(rt; tariff.left(7), Ok(0));
+    assert_eq!(rt; fee_of(&tariff, &trade(7, 5)), Ok(4_200));
     Ok(())
 }
 
 #[test]
 fn a_tariff_is_chosen_at_run_time(rt: HostRuntime) -> Result<(), Fail> {
-    for reduced in [false, true] {
-        let Ok(upper) = two_allowances() else {
-            return Err(Fail::new("refused"));
-        };
+    for (reduced, refused) in [(true, None), (false, Some(13))] {
         let tariff = if reduced {
-            Either::First(upper)
+            Either::Left(two_allowances()?)
         } else {
-            Either::Second(Listing::new())
+            Either::Right(Listing::new())
         };
-        let expected = if reduced { 0 } else { 13 };
-        assert_eq!(rt; number(fee_of(&tariff, &trade(7, 5))), expected);
+        let refusal = fee_of(&tariff, &trade(7, 5)).err();
+        assert_eq!(rt; refusal.map(|refusal| refusal.reason.number()), refused);
     }
     Ok(())
 }

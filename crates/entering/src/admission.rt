@@ -7,7 +7,7 @@ ghost use Rattle.tables.specs.Model.{model_of, unpriced, bare, Judges, Follows};
 
 use ledger::Account;
 use tables::Tables;
-use terms::{AccountKind, NO_ACCOUNT, Reason, Refusal};
+use terms::{AccountKind, AccountNumber, Reason, Refusal};
 
 /// Admits an account as house 0, maker 1 or client 2, with no cash: 4 for a number out of range, 6 where it is there
 /// already, 12 where there is no space.
@@ -25,9 +25,7 @@ pub fn admit(tables: &mut Tables, account: u16, kind: u8) -> Result<(), Refusal>
 fn judged(tables: &Tables, account: u16, kind: u8) -> Result<AccountKind, Refusal>
     ensures { Judges (judge_admit (model_of tables.now) account kind (post (model_of tables.now) (admit account kind) unpriced)) (λ k. k ≡ account_kind_of kind) result }
 {
-    if account == NO_ACCOUNT {
-        return Err(Refusal::plain(Reason::OutOfRange));
-    }
+    AccountNumber::try_from(account)?;
     let kind = AccountKind::try_from(kind)?;
     if tables.accounts.read(u64::from(account)).is_some() {
         return Err(Refusal::plain(Reason::Present));

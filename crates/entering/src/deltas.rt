@@ -4,16 +4,16 @@ ghost use Rattle.positions.specs.Keys.{series_key};
 ghost use Rattle.ledger.specs.Book.{state_at};
 ghost use Rattle.ledger.specs.Calls.{delta};
 ghost use Rattle.ledger.specs.Judge.{judge_delta};
-ghost use Rattle.ledger.specs.Numbers.{family_of, key_of};
-ghost use Rattle.tables.specs.Model.{model_of, bare, Judges, Follows, numbers};
+ghost use Rattle.ledger.specs.Numbers.{key_of};
+ghost use Rattle.tables.specs.Model.{model_of, bare, Judges, Follows, numbered};
 ghost use Rattle.entering.specs.Found.{FoundAt};
 
 use crate::listing::takes_delta;
 use ledger::{State, Terms};
 use positions::series_key;
 use series::{Series, SeriesNumbers};
-use tables::Tables;
-use terms::{Family, Reason, Refusal, SeriesKind};
+use tables::{InUse, Tables};
+use terms::{Reason, Refusal, SeriesKind};
 
 /// A listed series: its key, and how far it is.
 #[derive(Clone, Copy)]
@@ -24,17 +24,10 @@ struct Found {
 
 /// Gives an option a new delta, in ten-thousandths: 4 for a number out of range or a future, 5 for a strike off its
 /// step, 7 where it is not listed, 8 where it is done.
-pub fn delta(
-    tables: &mut Tables,
-    kind: u8,
-    month: u16,
-    strike: u32,
-    value: i32,
-) -> Result<(), Refusal>
-    ensures { Follows (bare (delta (numbers kind month strike) value)) tables.old tables.new result }
+pub fn delta(tables: &mut Tables, numbers: SeriesNumbers, value: i32) -> Result<(), Refusal>
+    ensures { Follows (bare (delta (numbered numbers) value)) tables.old tables.new result }
 {
-    let family = tables.usable()?;
-    let found = weighed(tables, family, kind, month, strike, value)?;
+    let found = option_at(&tables.in_use()?, numbers, value)?;
     let terms = Terms {
         value,
         state: found.state,
@@ -43,40 +36,28 @@ pub fn delta(
     Ok(())
 }
 
-fn weighed(
-    tables: &Tables,
-    family: Family,
-    kind: u8,
-    month: u16,
-    strike: u32,
-    value: i32,
-) -> Result<Found, Refusal>
-    requires { family_of tables.now.family ≡ family }
-    ensures { Judges (judge_delta (model_of tables.now) (numbers kind month strike) value) (FoundAt tables.now (key_of (numbers kind month strike))) result }
+// The option that may have the delta.
+fn option_at(book: &InUse, numbers: SeriesNumbers, value: i32) -> Result<Found, Refusal>
+    ensures { Judges (judge_delta (model_of book.now.tables.now) (numbered numbers) value) (FoundAt book.now.tables.now (key_of (numbered numbers))) result }
 {
-    let series = Series::numbered(
-        family,
-        SeriesNumbers {
-            kind,
-            month,
-            strike,
-        },
-    )?;
-    if let SeriesKind::Future = series.kind() {
+    let series = Series::numbered(book.family, numbers)?;
+    if series.kind() == SeriesKind::Future || !takes_delta(series.kind(), value) {
         return Err(Refusal::plain(Reason::OutOfRange));
     }
-    if !takes_delta(series.kind(), value) {
-        return Err(Refusal::plain(Reason::OutOfRange));
-    }
-    if !series.on_step(family) {
+    if !series.on_step(book.family) {
         return Err(Refusal::plain(Reason::OffStep));
     }
     let key = series_key(series);
-    let Some(terms) = tables.series.read(key) else {
-        return Err(Refusal::plain(Reason::Absent));
-    };
-    match terms.state {
-        State::Done => return Err(Refusal::plain(Reason::WrongState)),
-        state => return Ok(Found { key, state }),
+    let terms = book
+        .tables
+        .series
+        .read(key)
+        .ok_or(Refusal::plain(Reason::Absent))?;
+    if terms.state.is_done() {
+        return Err(Refusal::plain(Reason::WrongState));
     }
+    Ok(Found {
+        key,
+        state: terms.state,
+    })
 }

@@ -1,5 +1,5 @@
 //! The calls that move no cash: admit, list, close, delta and enter.
-#![tactic(auto)]
+#![tactic(auto, unfolding(ledger::specs::Judge::need, ledger::specs::Judge::judge_call, ledger::specs::Judge::also, ledger::specs::Runs::judge, ledger::specs::Runs::afterwards, ledger::specs::Post::post, ledger::specs::Rows::change))]
 
 mod admission;
 mod closing;

@@ -1,16 +1,14 @@
 ghost use Rattle.std.specs.Prelude.{◌≡◌, ◌≤◌};
-ghost use Rattle.terms.specs.Families.{family_number};
 ghost use Rattle.positions.specs.Keys.{future_key};
-ghost use Rattle.ledger.specs.Calls.{enter};
-ghost use Rattle.ledger.specs.Judge.{judge_enter};
-ghost use Rattle.tables.specs.Model.{model_of, bare, Judges};
-ghost use Rattle.entering.specs.Entered.{FutureAt, Enters};
+ghost use Rattle.ledger.specs.Runs.{judge};
+ghost use Rattle.tables.specs.Model.{model_of, Judges};
+ghost use Rattle.entering.specs.Entered.{FutureAt, entering, Enters};
 
 use fixings::ClosedFixing;
 use ledger::{State, Terms};
 use positions::future_key;
 use tables::Tables;
-use terms::{Family, Month, Reason, Refusal};
+use terms::{Month, Reason, Refusal};
 
 /// A month's future: its key, and its mark.
 #[derive(Clone, Copy)]
@@ -29,42 +27,32 @@ pub fn enter(
 ) -> Result<(), (Refusal, ClosedFixing)>
     ensures { Enters month fixing tables.old tables.new result }
 {
-    if let Err(refusal) = tables.usable() {
-        return Err((refusal, fixing));
-    }
-    match entered(tables, month, fixing.family(), fixing.final_price()) {
+    // `map_err` would have to move the fixing into its closure.
+    let future = match future_for(tables, month, &fixing) {
+        Ok(future) => future,
         Err(refusal) => return Err((refusal, fixing)),
-        Ok(future) => {
-            let (_, price) = fixing.spend();
-            let terms = Terms {
-                value: future.mark,
-                state: State::Fixed(price),
-            };
-            let _ = tables.series.put(future.key, terms);
-            return Ok(());
-        }
-    }
+    };
+    let (_, price) = fixing.spend();
+    let terms = Terms {
+        value: future.mark,
+        state: State::Fixed(price),
+    };
+    let _ = tables.series.put(future.key, terms);
+    Ok(())
 }
 
-fn entered(tables: &Tables, month: u16, family: Family, price: u32) -> Result<FutureFound, Refusal>
-    requires { price ≤ 10000000 }
-    ensures { Judges (judge_enter (model_of tables.now) month (family_number family) price) (FutureAt tables.now month) result }
+// The month's future, where the fixing may be given to the month.
+fn future_for(tables: &Tables, month: u16, fixing: &ClosedFixing) -> Result<FutureFound, Refusal>
+    ensures { Judges (judge (model_of tables.now) (entering month fixing.now)) (FutureAt tables.now month) result }
 {
+    let book = tables.in_use()?;
     let month = Month::try_from(month)?;
-    if family as u8 != tables.family {
+    if fixing.family() != book.family {
         return Err(Refusal::plain(Reason::OutOfRange));
     }
-    let key = future_key(month);
-    let Some(future) = tables.series.read(key) else {
-        return Err(Refusal::plain(Reason::Absent));
-    };
-    match future.state {
-        State::Trading => {
-            return Ok(FutureFound {
-                key,
-                mark: future.value,
-            });
-        }
-        State::Fixed(_) | State::Done => return Err(Refusal::plain(Reason::WrongState)),
-    }
+    let future = tables.trading_future(month)?;
+    Ok(FutureFound {
+        key: future_key(month),
+        mark: future.value,
+    })
 }

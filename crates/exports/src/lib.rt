@@ -13,8 +13,5 @@ use strikelists::strikes;
 pub extern "C" fn posbook_strikes(family: u8, level: u32, out: &mut [u32]) -> usize
     ensures { Counted family level out.old out.new result }
 {
-    match strikes(family, level, out) {
-        Ok(count) => count,
-        Err(_) => 0,
-    }
+    strikes(family, level, out).unwrap_or(0)
 }

@@ -3,7 +3,7 @@ ghost use Rattle.std.specs.Prelude.{◌≡◌, IfOk, fold};
 ghost use Rattle.registers.specs.Held.{rows_of, room_of};
 ghost use Rattle.exports.specs.Runs.{filled_by, filled, found_by, toggled_by, cut_by, OrNone};
 
-use registers::{Register, Slots};
+use registers::Register;
 use std::alloc::{AllocError, Global};
 
 // Each key as its own content, as long as there is place.
@@ -20,11 +20,10 @@ fn fill(register: &mut Register<u64>, keys: &[u64])
 fn find(register: &Register<u64>, keys: &[u64]) -> u64
     ensures { result ≡ fold (found_by (rows_of register.now)) 0 keys.now }
 {
-    let mut sum = 0u64;
-    for key in keys {
-        sum = sum.wrapping_add(register.read(*key).unwrap_or(0));
-    }
-    sum
+    keys.iter().fold(
+        0,
+        |sum: u64, key| sum.wrapping_add(register.read(*key).unwrap_or(0)),
+    )
 }
 
 // Takes each key out, or puts it in where it does not stand, and adds up what was taken.
@@ -57,8 +56,7 @@ fn cut(register: &mut Register<u64>, keys: &[u64]) -> u64
 fn opened(heap: Global, room: usize, keys: &[u64]) -> Result<Register<u64>, AllocError>
     ensures { IfOk result (λ s. (rows_of s ≡ filled room keys.now) × (room_of s ≡ room)) }
 {
-    let slots = Slots::reserve(heap, room)?;
-    let mut register = Register::over(slots);
+    let mut register = Register::with_room(heap, room)?;
     fill(&mut register, keys);
     Ok(register)
 }
@@ -73,10 +71,7 @@ pub extern "C" fn posbook_register_find(
 ) -> u64
     ensures { OrNone result (fold (found_by (filled room keys.now)) 0 asked.now) }
 {
-    match opened(heap, room, keys) {
-        Ok(register) => find(&register, asked),
-        Err(_) => 0,
-    }
+    opened(heap, room, keys).map_or(0, |register| find(&register, asked))
 }
 
 /// A register filled with `keys`, then each of `turns` taken out, or put in where it does not stand: what was taken,
@@ -90,10 +85,7 @@ pub extern "C" fn posbook_register_toggle(
 ) -> u64
     ensures { OrNone result (fold (toggled_by room) (filled room keys.now, 0) turns.now).1 }
 {
-    match opened(heap, room, keys) {
-        Ok(mut register) => toggle(&mut register, turns),
-        Err(_) => 0,
-    }
+    opened(heap, room, keys).map_or(0, |mut register| toggle(&mut register, turns))
 }
 
 /// A register filled with `keys`, then the stretch of 64 keys from each of `cuts` taken out: how many rows, added up.
@@ -101,8 +93,5 @@ pub extern "C" fn posbook_register_toggle(
 pub extern "C" fn posbook_register_cut(heap: Global, room: usize, keys: &[u64], cuts: &[u64]) -> u64
     ensures { OrNone result (fold cut_by (filled room keys.now, 0) cuts.now).1 }
 {
-    match opened(heap, room, keys) {
-        Ok(mut register) => cut(&mut register, cuts),
-        Err(_) => 0,
-    }
+    opened(heap, room, keys).map_or(0, |mut register| cut(&mut register, cuts))
 }

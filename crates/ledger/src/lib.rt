@@ -3,6 +3,7 @@
 
 mod laws;
 mod rows;
+mod states;
 
 pub use laws::{book_balances, book_is_sound, laws_last, smaller_laws, worked_histories};
 pub use rows::{Account, State, Terms};

@@ -10,7 +10,11 @@ use terms::{Family, Price, SeriesKind};
 /// The farthest a cash balance goes, in cents, above and below zero.
 const MOST: i64 = 100_000_000_000_000_000;
 
+/// One point, in hundredths.
+const POINT: u32 = 100;
+
 /// The cents that a move of so many hundredths brings so many units; `None` where they do not fit 64 bits.
+#[tactic(auto, unfolding(crate::specs::Money::amount))]
 pub fn amount(family: Family, units: i64, hundredths: i32) -> Option<i64>
     ensures { SomeIff result (FitsSigned w64 (amount family units hundredths)) (amount family units hundredths) }
 {
@@ -27,19 +31,16 @@ fn for_one_unit(family: Family, hundredths: i32) -> i64
 pub fn paid(balance: i64, amount: i64) -> Option<i64>
     ensures { result ≡ (if balance_in (balance +ℤ amount) then Some (balance +ℤ amount) else None) }
 {
-    let after = balance.checked_add(amount)?;
-    if -MOST <= after && after <= MOST {
-        Some(after)
-    } else {
-        None
-    }
+    balance
+        .checked_add(amount)
+        .filter(|after| (-MOST..=MOST).contains(after))
 }
 
 /// How far a final price passes a cash option's strike in its favour, in hundredths; 0 for any other series.
 pub fn payoff(series: Series, final_price: u32) -> u32
     ensures { result ≡ payoff series.kind series.strike final_price }
 {
-    let strike = series.strike() * 100;
+    let strike = series.strike() * POINT;
     match series.kind() {
         SeriesKind::Call => final_price.saturating_sub(strike),
         SeriesKind::Put => strike.saturating_sub(final_price),
@@ -51,7 +52,7 @@ pub fn payoff(series: Series, final_price: u32) -> u32
 pub fn lapses(series: Series, level: Price) -> bool
     ensures { result ≡ lapses series.kind series.strike level.hundredths }
 {
-    let strike = series.strike() * 100;
+    let strike = series.strike() * POINT;
     match series.kind() {
         SeriesKind::CallOnFuture => level.hundredths() <= strike,
         SeriesKind::PutOnFuture => strike <= level.hundredths(),

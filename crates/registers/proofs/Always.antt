@@ -40,3 +40,5 @@ zipped_rises lo (k ∷ ks) (v ∷ vs) a h = (h (omega arith), zipped_rises (suc 
 pub rising : {X : Type 0} (r : Register X) → Rising 0 (rows_of r)
 unfolding rows_of
 rising r = zipped_rises 0 (keys_of r) (contents_of r) r.ascends (λ g. omega arith)
+
+pub ruleset facts = (count, count_keys, keys_are, contents_are, rising)

@@ -1,14 +1,14 @@
 -- A register's rows, from what is found among its keys.
-use Rattle.std.proofs.Common.{◌≡◌, ℕ, Bool, true, ◌||◌, ltb, List, length, get_or, set, is_some, Some, None, Ok, Err, Option, Result, sym, ap, ◌∙◌, ap₂, arith, MatchResult}
+use Rattle.std.proofs.Common.{◌≡◌, ℕ, Bool, true, ◌||◌, ltb, List, length, get_or, set, is_some, Some, None, Ok, Err, sym, ap, ◌∙◌, ap₂, subst, arith}
 use Rattle.std.specs.List.{insert, remove, zip, slice_get}
-use Rattle.registers.specs.Keys.{Found}
+use Rattle.registers.specs.Keys.{Found, Split}
 use Rattle.registers.specs.Rows.{lookup, put, without, below, place_for, contents_in}
 use Rattle.registers.specs.Held.{keys_of, contents_of, rows_of, room_of}
 use Rattle.registers.specs.declared.keyed.Register.{Register}
 use Rattle.registers.proofs.Always.{level, count_keys, keys_are, rising}
-use Rattle.registers.proofs.OneRow.{lookup_at}
+use Rattle.registers.proofs.OneRow.{lookup_at, without_absent}
 use Rattle.registers.proofs.Order.{before_found}
-use Rattle.registers.proofs.Places.{lookup_found, stands_found, lookup_missing, put_found, put_missing, without_found, without_missing, below_at}
+use Rattle.registers.proofs.Places.{lookup_found, stands_found, lookup_missing, put_found, put_missing, without_found, below_at}
 
 module _ {X : Type 0} (r : Register X) (k i : ℕ) where
   pub reads : (x : X) → Found (keys_of r) k (Ok i) → x ≡ get_or (contents_of r) i x → Some x ≡ lookup (rows_of r) k
@@ -26,9 +26,6 @@ module _ {X : Type 0} (r : Register X) (k i : ℕ) where
   unfolding rows_of
   misses f = lookup_missing k (keys_of r) (contents_of r) i f.1 (level r) f.0 (λ l. f.2 i (omega arith) l)
 
-  pub place_missing : Found (keys_of r) k (Err i) → place_for k (rows_of r) (room_of r) ≡ ltb (length (rows_of r)) (room_of r)
-  place_missing f = ap (λ (o : Option X). is_some o || ltb (length (rows_of r)) (room_of r)) (sym (misses f))
-
   pub replaces : (s : Register X) (x : X) → Found (keys_of r) k (Ok i) → keys_of s ≡ keys_of r → contents_of s ≡ set (contents_of r) i x → rows_of s ≡ put k x (rows_of r)
   unfolding rows_of
   replaces s x f e h = ap₂ zip e h ∙ put_found k (keys_of r) (contents_of r) i x (before_found (keys_of r) k i r.ascends f) (level r) f.0 f.1
@@ -41,22 +38,12 @@ module _ {X : Type 0} (r : Register X) (k i : ℕ) where
   unfolding rows_of
   removes s f e h = ap₂ zip e h ∙ without_found k (keys_of r) (contents_of r) i (before_found (keys_of r) k i r.ascends f) (level r) f.0 f.1
 
-  pub stays : Found (keys_of r) k (Err i) → rows_of r ≡ without k (rows_of r)
+  pub bounds : (ks : List ℕ) → ks ≡ keys_of r → Split ks k i → i ≡ below k (rows_of r)
   unfolding rows_of
-  stays f = without_missing k (keys_of r) (contents_of r) i f.1 (level r) f.0 (λ l. f.2 i (omega arith) l)
+  bounds ks e h = let s : Split (keys_of r) k i = subst (λ (l : List ℕ). Split l k i) e h in below_at k (keys_of r) (contents_of r) i s.before (level r) s.within (λ l. s.after i (omega arith) l)
 
-  bounds_found : Found (keys_of r) k (Ok i) → i ≡ below k (rows_of r)
-  unfolding rows_of
-  bounds_found f = below_at k (keys_of r) (contents_of r) i (before_found (keys_of r) k i r.ascends f) (level r) (let l = f.0 in omega arith) (λ l. let e = f.1 in omega arith)
+  pub holds : Found (keys_of r) k (Ok i) → slice_get (contents_in (rows_of r)) i ≡ lookup (rows_of r) k
+  holds f = sym (ap (lookup (rows_of r)) (sym f.1 ∙ ap (λ (ks : List ℕ). get_or ks i 0) (keys_are r)) ∙ lookup_at 0 (rows_of r) i (rising r) (let l = f.0 in omega (arith, count_keys r)))
 
-  bounds_missing : Found (keys_of r) k (Err i) → i ≡ below k (rows_of r)
-  unfolding rows_of
-  bounds_missing f = below_at k (keys_of r) (contents_of r) i f.1 (level r) f.0 (λ l. let h = f.2 i (omega arith) l in omega arith)
-
-pub bounds : {X : Type 0} (r : Register X) (k : ℕ) (o : Result ℕ ℕ) → Found (keys_of r) k o → MatchResult o (λ i. i ≡ below k (rows_of r)) (λ i. i ≡ below k (rows_of r))
-bounds r k (Ok i) f = bounds_found r k i f
-bounds r k (Err i) f = bounds_missing r k i f
-
-pub holds : {X : Type 0} (r : Register X) (k : ℕ) (o : Result ℕ ℕ) → Found (keys_of r) k o → MatchResult o (λ i. slice_get (contents_in (rows_of r)) i ≡ lookup (rows_of r) k) (λ _. None ≡ lookup (rows_of r) k)
-holds r k (Ok i) f = sym (ap (lookup (rows_of r)) (sym f.1 ∙ ap (λ (ks : List ℕ). get_or ks i 0) (keys_are r)) ∙ lookup_at 0 (rows_of r) i (rising r) (let l = f.0 in omega (arith, count_keys r)))
-holds r k (Err i) f = misses r k i f
+-- a row taken out
+pub ruleset taken = (reads, removes, without_absent)

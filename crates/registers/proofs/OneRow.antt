@@ -1,8 +1,8 @@
 -- Laws of one row put in or taken out: what a look-up finds, and that order is kept.
-use Rattle.std.proofs.Common.{◌≡◌, ℕ, zero, suc, ◌<◌, ◌≤◌, Bool, true, false, cond, eqb, ltb, [], ◌∷◌, length, get_or, Some, None, refl, ap, arith}
+use Rattle.std.proofs.Common.{◌≡◌, ℕ, zero, suc, ◌<◌, ◌≤◌, [], ◌∷◌, length, get_or, Some, None, refl, ap, arith}
 use Rattle.std.specs.List.{slice_get}
 use Rattle.std.proofs.lemmas.Bool.Decides.{nat_tests}
-use Rattle.std.proofs.lemmas.Bool.{lt-ltb, le-ltb, eq-eqb, ne_eqb}
+use Rattle.std.proofs.lemmas.Bool.{lt-ltb}
 use Rattle.registers.specs.Rows.{Rows, Rising, lookup, put, without, keys_in, contents_in}
 
 pub rising_down : {V : Type 0} (lo hi : ℕ) (rs : Rows V) → lo ≤ hi → Rising hi rs → Rising lo rs
@@ -44,22 +44,12 @@ lookup-without_other k j lo (r ∷ rs) o n = let ih = lookup-without_other k j (
 pub without_absent : {V : Type 0} (k : ℕ) (rs : Rows V) → lookup rs k ≡ None → without k rs ≡ rs
 unfolding lookup without
 without_absent k [] e = refl
-without_absent {V} k (r ∷ rs) e = ways (ltb k r.0) (eqb k r.0) (without_absent k rs) e
-  where
-    ways : (b c : Bool) → (lookup rs k ≡ None → without k rs ≡ rs) → cond b None (cond c (Some r.1) (lookup rs k)) ≡ None → cond b (r ∷ rs) (cond c rs (r ∷ without k rs)) ≡ r ∷ rs
-    ways true c ih e = refl
-    ways false true ih e = absurd (let z : ◌≡◌ {A = ℕ} 0 1 = cc in omega arith)
-    ways false false ih e = ap (λ (t : Rows V). r ∷ t) (ih e)
+without_absent k (r ∷ rs) e = let ih = without_absent k rs in grind (arith, nat_tests)
 
 pub rising_without : {V : Type 0} (k lo : ℕ) (rs : Rows V) → Rising lo rs → Rising lo (without k rs)
 unfolding without
 rising_without k lo [] o = tt
-rising_without {V} k lo (r ∷ rs) o = ways (ltb k r.0) (eqb k r.0) (rising_without k (suc r.0) rs o.1)
-  where
-    ways : (b c : Bool) → Rising (suc r.0) (without k rs) → Rising lo (cond b (r ∷ rs) (cond c rs (r ∷ without k rs)))
-    ways true c ih = o
-    ways false true ih = rising_down lo (suc r.0) rs (omega (arith, o.0)) o.1
-    ways false false ih = (o.0, ih)
+rising_without k lo (r ∷ rs) o = let ih = rising_without k (suc r.0) rs o.1 in let z = rising_down lo (suc r.0) rs in grind (arith, nat_tests)
 
 -- ---- keys in order
 pub key_from : {V : Type 0} (lo : ℕ) (rs : Rows V) (i : ℕ) → Rising lo rs → i < length rs → lo ≤ get_or (keys_in rs) i 0
@@ -77,8 +67,5 @@ once lo (r ∷ rs) (suc i) (suc j) o l m e = ap suc (once (suc r.0) rs i j o.1 (
 pub lookup_at : {V : Type 0} (lo : ℕ) (rs : Rows V) (i : ℕ) → Rising lo rs → i < length rs → lookup rs (get_or (keys_in rs) i 0) ≡ slice_get (contents_in rs) i
 unfolding lookup
 lookup_at lo [] i o l = absurd (omega arith)
-lookup_at lo (r ∷ rs) zero o l = rw (le-ltb r.0 r.0 (omega arith), eq-eqb r.0 r.0 refl)
-lookup_at lo (r ∷ rs) (suc i) o l =
-    let k = get_or (keys_in rs) i 0 in
-    let h = key_from (suc r.0) rs i o.1 (omega arith) in
-    rw (le-ltb k r.0 (omega arith), ne_eqb k r.0 (λ e. omega arith)) (lookup_at (suc r.0) rs i o.1 (omega arith))
+lookup_at lo (r ∷ rs) zero o l = grind (arith, nat_tests)
+lookup_at lo (r ∷ rs) (suc i) o l = let ih = lookup_at (suc r.0) rs i o.1 (omega arith) in let h = key_from (suc r.0) rs i o.1 (omega arith) in grind (arith, nat_tests)

@@ -1,10 +1,10 @@
 -- Keys beside contents: what the rows are where a content is read, written, put in or taken out at a place.
-use Rattle.std.proofs.Common.{◌≡◌, ℕ, zero, suc, ◌<◌, ◌≤◌, true, List, [], ◌∷◌, length, get_or, set, is_some, Some, None, sym, refl, ap, ◌∙◌, arith}
+use Rattle.std.proofs.Common.{◌≡◌, ℕ, zero, suc, ◌<◌, ◌≤◌, true, List, [], ◌∷◌, length, get_or, set, is_some, Some, None, sym, refl, ap, arith}
 use Rattle.std.specs.List.{insert, remove, zip}
 use Rattle.std.proofs.lemmas.List.{get_or_default}
-use Rattle.std.proofs.lemmas.Bool.{le-ltb, lt-ltb, ne_eqb, eq-eqb}
+use Rattle.std.proofs.lemmas.Bool.Decides.{nat_tests}
 use Rattle.registers.specs.Keys.{Before}
-use Rattle.registers.specs.Rows.{Rows, lookup, put, without, below}
+use Rattle.registers.specs.Rows.{lookup, put, without, below}
 
 later : (k j : ℕ) (ks : List ℕ) (i : ℕ) → Before (j ∷ ks) k (suc i) → Before ks k i
 later k j ks i b m l = b (suc m) (omega arith)
@@ -14,29 +14,13 @@ abbrev pub Next : List ℕ → ℕ → ℕ → Type 0
 Next ks k i = i < length ks → k < get_or ks i 0
 
 module _ {V : Type 0} (k : ℕ) where
-  lookup_past : (j : ℕ) (v : V) (rs : Rows V) → j < k → lookup ((j, v) ∷ rs) k ≡ lookup rs k
-  unfolding lookup
-  lookup_past j v rs h = rw (le-ltb k j (omega arith), ne_eqb k j (λ e. omega arith))
-
-  put_past : (w : V) (j : ℕ) (v : V) (rs : Rows V) → j < k → put k w ((j, v) ∷ rs) ≡ (j, v) ∷ put k w rs
-  unfolding put
-  put_past w j v rs h = rw (le-ltb k j (omega arith), ne_eqb k j (λ e. omega arith))
-
-  without_past : (j : ℕ) (v : V) (rs : Rows V) → j < k → without k ((j, v) ∷ rs) ≡ (j, v) ∷ without k rs
-  unfolding without
-  without_past j v rs h = rw (le-ltb k j (omega arith), ne_eqb k j (λ e. omega arith))
-
-  below_past : (j : ℕ) (v : V) (rs : Rows V) → j < k → below k ((j, v) ∷ rs) ≡ suc (below k rs)
-  unfolding below
-  below_past j v rs h = rw (lt-ltb j k h)
-
   -- the key stands at i
   pub lookup_found : (ks : List ℕ) (vs : List V) (i : ℕ) (x : V) → Before ks k i → length vs ≡ length ks → i < length ks → get_or ks i 0 ≡ k → x ≡ get_or vs i x → Some x ≡ lookup (zip ks vs) k
   unfolding lookup
   lookup_found [] vs i x b n l h e = absurd (omega arith)
   lookup_found (j ∷ ks) [] i x b n l h e = absurd (omega arith)
-  lookup_found (j ∷ ks) (v ∷ vs) zero x b n l h e = rw (le-ltb k j (omega arith), eq-eqb k j (sym h)) (ap Some e)
-  lookup_found (j ∷ ks) (v ∷ vs) (suc i) x b n l h e = lookup_found ks vs i x (later k j ks i b) (omega arith) (omega arith) h e ∙ sym (lookup_past j v (zip ks vs) (b 0 (omega arith)))
+  lookup_found (j ∷ ks) (v ∷ vs) zero x b n l h e = grind (arith, nat_tests)
+  lookup_found (j ∷ ks) (v ∷ vs) (suc i) x b n l h e = let ih = lookup_found ks vs i x (later k j ks i b) (omega arith) (omega arith) h e in grind (arith, nat_tests, b 0)
 
   pub stands_found : (ks : List ℕ) (vs : List V) (i : ℕ) → Before ks k i → length vs ≡ length ks → i < length ks → get_or ks i 0 ≡ k → is_some (lookup (zip ks vs) k) ≡ true
   stands_found ks [] i b n l h = absurd (omega arith)
@@ -46,23 +30,23 @@ module _ {V : Type 0} (k : ℕ) where
   unfolding put
   put_found [] vs i x b n l h = absurd (omega arith)
   put_found (j ∷ ks) [] i x b n l h = absurd (omega arith)
-  put_found (j ∷ ks) (v ∷ vs) zero x b n l h = rw (le-ltb k j (omega arith), eq-eqb k j (sym h)) (ap (λ (m : ℕ). (m, x) ∷ zip ks vs) h)
-  put_found (j ∷ ks) (v ∷ vs) (suc i) x b n l h = ap (λ (r : Rows V). (j, v) ∷ r) (put_found ks vs i x (later k j ks i b) (omega arith) (omega arith) h) ∙ sym (put_past x j v (zip ks vs) (b 0 (omega arith)))
+  put_found (j ∷ ks) (v ∷ vs) zero x b n l h = grind (arith, nat_tests)
+  put_found (j ∷ ks) (v ∷ vs) (suc i) x b n l h = let ih = put_found ks vs i x (later k j ks i b) (omega arith) (omega arith) h in grind (arith, nat_tests, b 0)
 
   pub without_found : (ks : List ℕ) (vs : List V) (i : ℕ) → Before ks k i → length vs ≡ length ks → i < length ks → get_or ks i 0 ≡ k → zip (remove ks i) (remove vs i) ≡ without k (zip ks vs)
   unfolding without
   without_found [] vs i b n l h = absurd (omega arith)
   without_found (j ∷ ks) [] i b n l h = absurd (omega arith)
-  without_found (j ∷ ks) (v ∷ vs) zero b n l h = rw (le-ltb k j (omega arith), eq-eqb k j (sym h))
-  without_found (j ∷ ks) (v ∷ vs) (suc i) b n l h = ap (λ (r : Rows V). (j, v) ∷ r) (without_found ks vs i (later k j ks i b) (omega arith) (omega arith) h) ∙ sym (without_past j v (zip ks vs) (b 0 (omega arith)))
+  without_found (j ∷ ks) (v ∷ vs) zero b n l h = grind (arith, nat_tests)
+  without_found (j ∷ ks) (v ∷ vs) (suc i) b n l h = let ih = without_found ks vs i (later k j ks i b) (omega arith) (omega arith) h in grind (arith, nat_tests, b 0)
 
   -- it would go to i
   pub lookup_missing : (ks : List ℕ) (vs : List V) (i : ℕ) → Before ks k i → length vs ≡ length ks → i ≤ length ks → Next ks k i → None ≡ lookup (zip ks vs) k
   unfolding lookup
   lookup_missing [] vs i b n l h = refl
   lookup_missing (j ∷ ks) [] i b n l h = refl
-  lookup_missing (j ∷ ks) (v ∷ vs) zero b n l h = rw (lt-ltb k j (h (omega arith)))
-  lookup_missing (j ∷ ks) (v ∷ vs) (suc i) b n l h = lookup_missing ks vs i (later k j ks i b) (omega arith) (omega arith) (λ g. h (omega arith)) ∙ sym (lookup_past j v (zip ks vs) (b 0 (omega arith)))
+  lookup_missing (j ∷ ks) (v ∷ vs) zero b n l h = grind (arith, nat_tests)
+  lookup_missing (j ∷ ks) (v ∷ vs) (suc i) b n l h = let ih = lookup_missing ks vs i (later k j ks i b) (omega arith) (omega arith) (λ g. h (omega arith)) in grind (arith, nat_tests, b 0)
 
   pub put_missing : (ks : List ℕ) (vs : List V) (i : ℕ) (x : V) → Before ks k i → length vs ≡ length ks → i ≤ length ks → Next ks k i → zip (insert ks i k) (insert vs i x) ≡ put k x (zip ks vs)
   unfolding put
@@ -70,20 +54,13 @@ module _ {V : Type 0} (k : ℕ) where
   put_missing [] [] (suc i) x b n l h = absurd (omega arith)
   put_missing [] (v ∷ vs) i x b n l h = absurd (omega arith)
   put_missing (j ∷ ks) [] i x b n l h = absurd (omega arith)
-  put_missing (j ∷ ks) (v ∷ vs) zero x b n l h = rw (lt-ltb k j (h (omega arith)))
-  put_missing (j ∷ ks) (v ∷ vs) (suc i) x b n l h = ap (λ (r : Rows V). (j, v) ∷ r) (put_missing ks vs i x (later k j ks i b) (omega arith) (omega arith) (λ g. h (omega arith))) ∙ sym (put_past x j v (zip ks vs) (b 0 (omega arith)))
-
-  pub without_missing : (ks : List ℕ) (vs : List V) (i : ℕ) → Before ks k i → length vs ≡ length ks → i ≤ length ks → Next ks k i → zip ks vs ≡ without k (zip ks vs)
-  unfolding without
-  without_missing [] vs i b n l h = refl
-  without_missing (j ∷ ks) [] i b n l h = refl
-  without_missing (j ∷ ks) (v ∷ vs) zero b n l h = rw (lt-ltb k j (h (omega arith)))
-  without_missing (j ∷ ks) (v ∷ vs) (suc i) b n l h = ap (λ (r : Rows V). (j, v) ∷ r) (without_missing ks vs i (later k j ks i b) (omega arith) (omega arith) (λ g. h (omega arith))) ∙ sym (without_past j v (zip ks vs) (b 0 (omega arith)))
+  put_missing (j ∷ ks) (v ∷ vs) zero x b n l h = grind (arith, nat_tests)
+  put_missing (j ∷ ks) (v ∷ vs) (suc i) x b n l h = let ih = put_missing ks vs i x (later k j ks i b) (omega arith) (omega arith) (λ g. h (omega arith)) in grind (arith, nat_tests, b 0)
 
   -- the rows before the place i have smaller keys, and the next has not
   pub below_at : (ks : List ℕ) (vs : List V) (i : ℕ) → Before ks k i → length vs ≡ length ks → i ≤ length ks → (i < length ks → k ≤ get_or ks i 0) → i ≡ below k (zip ks vs)
   unfolding below
   below_at [] vs i b n l h = omega arith
   below_at (j ∷ ks) [] i b n l h = absurd (omega arith)
-  below_at (j ∷ ks) (v ∷ vs) zero b n l h = rw (le-ltb j k (h (omega arith)))
-  below_at (j ∷ ks) (v ∷ vs) (suc i) b n l h = ap suc (below_at ks vs i (later k j ks i b) (omega arith) (omega arith) (λ g. h (omega arith))) ∙ sym (below_past j v (zip ks vs) (b 0 (omega arith)))
+  below_at (j ∷ ks) (v ∷ vs) zero b n l h = grind (arith, nat_tests)
+  below_at (j ∷ ks) (v ∷ vs) (suc i) b n l h = let ih = below_at ks vs i (later k j ks i b) (omega arith) (omega arith) (λ g. h (omega arith)) in grind (arith, nat_tests, b 0)

@@ -1,10 +1,10 @@
 -- Laws of the three parts of rows.
-use Rattle.std.proofs.Common.{◌≡◌, ℕ, suc, ◌+◌, ◌<◌, ◌≤◌, Bool, true, false, cond, not, eqb, ltb, List, [], ◌∷◌, ◌++◌, length, drop, ℤ, ◌+ℤ◌, Some, None, filter, Option, sym, refl, ap, ◌∙◌, subst, ⊎_elim, zero-add, arith}
+use Rattle.std.proofs.Common.{◌≡◌, ℕ, suc, ◌+◌, ◌≤◌, Bool, false, cond, not, List, [], ◌∷◌, ◌++◌, length, drop, ℤ, ◌+ℤ◌, None, filter, max, sym, refl, ap, ◌∙◌, subst, ⊎_elim, arith}
 use Rattle.std.specs.List.{zip}
 use Rattle.std.proofs.lemmas.List.{length-take-le, take-append-drop, drop-drop, length-append, length-map, map-append}
 use Rattle.std.proofs.lemmas.Slice.Zip.{firsts-zip}
 use Rattle.std.proofs.lemmas.Int.{ints}
-use Rattle.std.proofs.lemmas.Bool.{lt-ltb, le-ltb, le-leb, lt-leb, ne_eqb, cases_lt, cases_eq, true≢false}
+use Rattle.std.proofs.lemmas.Bool.{cases_lt}
 use Rattle.std.proofs.lemmas.Bool.Decides.{nat_tests}
 use Rattle.registers.specs.Rows.{Rows, Rising, below, keys_in, lookup}
 use Rattle.registers.specs.Stretches.{front, onwards, stretch, rest, rewritten}
@@ -33,20 +33,19 @@ parts a b rs = ap (λ l. front a rs ++ l) (take-append-drop (below b (onwards a 
 pub below_onwards : {V : Type 0} (a b : ℕ) (rs : Rows V) → a ≤ b → below b rs ≡ below a rs + below b (onwards a rs)
 unfolding below
 below_onwards a b [] h = refl
-below_onwards a b (r ∷ rs) h =
-    ⊎_elim
-    (λ l. let ih = below_onwards a b rs h in rw (lt-ltb r.0 a l, lt-ltb r.0 b (omega arith)) (omega arith))
-    (λ l. rw (le-ltb r.0 a l) (sym (zero-add _)))
-    (cases_lt r.0 a)
+below_onwards a b (r ∷ rs) h = let ih = below_onwards a b rs h in grind (arith, nat_tests)
 
 pub onwards_none : {V : Type 0} (a b : ℕ) (rs : Rows V) → b ≤ a → below b (onwards a rs) ≡ 0
 unfolding below
 onwards_none a b [] h = refl
-onwards_none a b (r ∷ rs) h =
+onwards_none a b (r ∷ rs) h = let ih = onwards_none a b rs h in grind (arith, nat_tests)
+
+pub below_max : {V : Type 0} (a b : ℕ) (rs : Rows V) → below (max a b) rs ≡ below a rs + below b (onwards a rs)
+below_max a b rs =
     ⊎_elim
-    (λ l. rw (lt-ltb r.0 a l) (onwards_none a b rs h))
-    (λ l. rw (le-ltb r.0 a l, le-ltb r.0 b (omega arith)))
-    (cases_lt r.0 a)
+    (λ l. let e : max a b ≡ b = omega arith in ap (λ (k : ℕ). below k rs) e ∙ below_onwards a b rs (omega arith))
+    (λ l. let e : max a b ≡ a = omega arith in let z = onwards_none a b rs l in ap (λ (k : ℕ). below k rs) e ∙ omega arith)
+    (cases_lt a b)
 
 -- the rest, by its place
 pub rest_is : {V : Type 0} (a b : ℕ) (rs : Rows V) → rest a b rs ≡ drop (below a rs + below b (onwards a rs)) rs
@@ -59,71 +58,44 @@ is_inside a b r = inside a b r.0
 abbrev is_outside : {V : Type 0} → ℕ → ℕ → ℕ × V → Bool
 is_outside a b r = not (inside a b r.0)
 
-inside_yes : (a b k : ℕ) → a ≤ k → k < b → inside a b k ≡ true
-inside_yes a b k h l = rw (le-leb a k h, lt-ltb k b l)
-
-inside_below : (a b k : ℕ) → k < a → inside a b k ≡ false
-inside_below a b k h = rw (lt-leb a k h)
-
-inside_past : (a b k : ℕ) → a ≤ k → b ≤ k → inside a b k ≡ false
-inside_past a b k h l = rw (le-leb a k h, le-ltb k b l)
-
 -- rows that all lie past the stretch
 kept_past : {V : Type 0} (a b lo : ℕ) (rs : Rows V) → Rising lo rs → a ≤ lo → b ≤ lo → ([] ≡ filter (is_inside a b) rs) × (rs ≡ filter (is_outside a b) rs)
 kept_past a b lo [] o h l = (refl, refl)
-kept_past {V} a b lo (r ∷ rs) o h l =
-    let g = o.0 in
-    let ih = kept_past a b (suc r.0) rs o.1 (omega arith) (omega arith) in
-    let e = inside_past a b r.0 (omega arith) (omega arith) in
-    (rw e ih.0, rw e (ap (λ (t : Rows V). r ∷ t) ih.1))
+kept_past a b lo (r ∷ rs) o h l = let g = o.0 in let ih = kept_past a b (suc r.0) rs o.1 (omega arith) (omega arith) in grind (arith, nat_tests)
 
 -- rows that begin in the stretch, or past it
 kept_onwards : {V : Type 0} (a b lo : ℕ) (rs : Rows V) → Rising lo rs → a ≤ lo → (front b rs ≡ filter (is_inside a b) rs) × (onwards b rs ≡ filter (is_outside a b) rs)
 unfolding below
 kept_onwards a b lo [] o h = (refl, refl)
-kept_onwards {V} a b lo (r ∷ rs) o h =
+kept_onwards a b lo (r ∷ rs) o h =
     let g = o.0 in
     let ih = kept_onwards a b (suc r.0) rs o.1 (omega arith) in
-    ⊎_elim
-    (λ l. let e = inside_yes a b r.0 (omega arith) l in
-    (rw (e, lt-ltb r.0 b l) (ap (λ (t : Rows V). r ∷ t) ih.0), rw (e, lt-ltb r.0 b l) ih.1))
-    (λ l. let p = kept_past a b (suc r.0) rs o.1 (omega arith) (omega arith) in
-    let e = inside_past a b r.0 (omega arith) l in
-    (rw (e, le-ltb r.0 b l) p.0, rw (e, le-ltb r.0 b l) (ap (λ (t : Rows V). r ∷ t) p.1)))
-    (cases_lt r.0 b)
+    let past = kept_past a b (suc r.0) rs o.1 in
+    grind (arith, nat_tests)
 
 -- the stretch is the rows with keys from a to below b, and the front and the rest are the others
 pub kept : {V : Type 0} (a b lo : ℕ) (rs : Rows V) → Rising lo rs → (stretch a b rs ≡ filter (is_inside a b) rs) × (front a rs ++ rest a b rs ≡ filter (is_outside a b) rs)
 unfolding below
 kept a b lo [] o = (refl, refl)
-kept {V} a b lo (r ∷ rs) o =
-    ⊎_elim
-    (λ l. let ih = kept a b (suc r.0) rs o.1 in
-    let e = inside_below a b r.0 l in
-    (rw (e, lt-ltb r.0 a l) ih.0, rw (e, lt-ltb r.0 a l) (ap (λ (t : Rows V). r ∷ t) ih.1)))
-    (λ l. let p = kept_onwards a b r.0 (r ∷ rs) (omega arith, o.1) l in
-    (rw (le-ltb r.0 a l) p.0, rw (le-ltb r.0 a l) p.1))
-    (cases_lt r.0 a)
+kept a b lo (r ∷ rs) o =
+    let ih = kept a b (suc r.0) rs o.1 in
+    let at = kept_onwards a b r.0 (r ∷ rs) in
+    grind (arith, nat_tests)
 
 -- ---- rows without the stretch
 kept_rises : {V : Type 0} (p : ℕ × V → Bool) (lo : ℕ) (rs : Rows V) → Rising lo rs → Rising lo (filter p rs)
 kept_rises p lo [] o = tt
-kept_rises {V} p lo (r ∷ rs) o = ways (p r) (kept_rises p (suc r.0) rs o.1)
-  where
-    ways : (t : Bool) → Rising (suc r.0) (filter p rs) → Rising lo (cond t (r ∷ filter p rs) (filter p rs))
-    ways true ih = (o.0, ih)
-    ways false ih = rising_down lo (suc r.0) (filter p rs) (omega (arith, o.0)) ih
+kept_rises p lo (r ∷ rs) o =
+    let ih = kept_rises p (suc r.0) rs o.1 in
+    let down = rising_down lo (suc r.0) (filter p rs) in
+    grind (arith, nat_tests)
 
 pub rising_others : {V : Type 0} (a b lo : ℕ) (rs : Rows V) → Rising lo rs → Rising lo (front a rs ++ rest a b rs)
 rising_others {V} a b lo rs o = let R : Rows V → Type 0 = Rising lo in subst R (sym (kept a b lo rs o).1) (kept_rises (is_outside a b) lo rs o)
 
 looked_kept : {V : Type 0} (a b j lo : ℕ) (rs : Rows V) → Rising lo rs → lookup (filter (is_outside a b) rs) j ≡ cond (inside a b j) None (lookup rs j)
 unfolding lookup
-looked_kept {V} a b j lo [] o = ways (inside a b j)
-  where
-    ways : (t : Bool) → ◌≡◌ {A = Option V} None (cond t None None)
-    ways true = refl
-    ways false = refl
+looked_kept a b j lo [] o = grind (arith, nat_tests)
 looked_kept a b j lo (r ∷ rs) o =
     let ih = looked_kept a b j (suc r.0) rs o.1 in
     let z = lookup-below j (suc r.0) (filter (is_outside a b) rs) (kept_rises (is_outside a b) (suc r.0) rs o.1) in
@@ -193,25 +165,16 @@ keys_rewritten {V} a b ws rs n =
 looked_onwards : {V : Type 0} (a b j lo : ℕ) (ws : List V) (rs : Rows V) → inside a b j ≡ false → length ws ≡ length (front b rs) → a ≤ lo → Rising lo rs → lookup (zip (keys_in (front b rs)) ws ++ onwards b rs) j ≡ lookup rs j
 unfolding lookup below
 looked_onwards a b j lo ws [] i n h o = refl
-looked_onwards a b j lo [] (r ∷ rs) i n h o =
-    ⊎_elim (λ l. let m = rw (lt-ltb r.0 b l) at n in absurd (omega arith)) (λ l. rw (le-ltb r.0 b l)) (cases_lt r.0 b)
-looked_onwards {V} a b j lo (w ∷ ws) (r ∷ rs) i n h o =
-    ⊎_elim
-    (λ l. let m = rw (lt-ltb r.0 b l) at n in
-    let g = o.0 in
-    let ih = looked_onwards a b j (suc r.0) ws rs i (omega arith) (omega arith) o.1 in
-    ⊎_elim
-    (λ e. absurd (true≢false (sym (inside_yes a b j (omega arith) (omega arith)) ∙ i)))
-    (λ e. rw (lt-ltb r.0 b l, ne_eqb j r.0 e) (ap (λ (x : Option V). cond (ltb j r.0) None x) ih))
-    (cases_eq j r.0))
-    (λ l. rw (le-ltb r.0 b l))
-    (cases_lt r.0 b)
+looked_onwards a b j lo [] (r ∷ rs) i n h o = grind (arith, nat_tests)
+looked_onwards a b j lo (w ∷ ws) (r ∷ rs) i n h o = next (looked_onwards a b j (suc r.0) ws rs i)
+  where
+    next : (length ws ≡ length (front b rs) → a ≤ suc r.0 → Rising (suc r.0) rs → lookup (zip (keys_in (front b rs)) ws ++ onwards b rs) j ≡ lookup rs j) → lookup (zip (keys_in (front b (r ∷ rs))) (w ∷ ws) ++ onwards b (r ∷ rs)) j ≡ lookup (r ∷ rs) j
+    next ih = let g = o.0 in grind (arith, nat_tests)
 
 pub lookup-rewritten : {V : Type 0} (a b j lo : ℕ) (ws : List V) (rs : Rows V) → Rising lo rs → length ws ≡ length (stretch a b rs) → inside a b j ≡ false → lookup (rewritten a b ws rs) j ≡ lookup rs j
 unfolding lookup below
 lookup-rewritten a b j lo ws [] o n i = refl
-lookup-rewritten {V} a b j lo ws (r ∷ rs) o n i =
-    ⊎_elim
-    (λ l. rw (lt-ltb r.0 a l) (ap (λ (x : Option V). cond (ltb j r.0) None (cond (eqb j r.0) (Some r.1) x)) (lookup-rewritten a b j (suc r.0) ws rs o.1 (rw (lt-ltb r.0 a l) at n) i)))
-    (λ l. rw (le-ltb r.0 a l) (looked_onwards a b j r.0 ws (r ∷ rs) i (rw (le-ltb r.0 a l) at n) l (omega arith, o.1)))
-    (cases_lt r.0 a)
+lookup-rewritten a b j lo ws (r ∷ rs) o n i =
+    let ih = lookup-rewritten a b j (suc r.0) ws rs o.1 in
+    let at = looked_onwards a b j r.0 ws (r ∷ rs) i in
+    grind (arith, nat_tests)

@@ -1,6 +1,7 @@
 -- Laws of sums over rows: how a sum changes with one row, and over two parts.
 use Rattle.std.proofs.Common.{◌≡◌, ℕ, ◌+◌, Bool, true, false, cond, eqb, ltb, [], ◌∷◌, ◌++◌, length, ℤ, ◌+ℤ◌, Some, None, sym, refl, ap, ◌∙◌, arith}
 use Rattle.std.proofs.lemmas.Bool.{eqb-true}
+use Rattle.std.proofs.lemmas.Bool.Decides.{nat_tests}
 use Rattle.std.proofs.lemmas.Int.{ints}
 use Rattle.registers.specs.Rows.{Rows, lookup, put, without}
 use Rattle.registers.specs.Sums.{total, total_ℤ, share, share_ℤ}
@@ -9,24 +10,12 @@ module _ {V : Type 0} (f : ℕ → V → ℕ) where
   pub total-put : (k : ℕ) (v : V) (rs : Rows V) → total f (put k v rs) + share f k (lookup rs k) ≡ total f rs + f k v
   unfolding total put lookup
   total-put k v [] = omega arith
-  total-put k v (r ∷ rs) = ways (ltb k r.0) (eqb k r.0) refl (total-put k v rs)
-    where
-      ways : (b c : Bool) → eqb k r.0 ≡ c → total f (put k v rs) + share f k (lookup rs k) ≡ total f rs + f k v
-          → total f (cond b ((k, v) ∷ r ∷ rs) (cond c ((k, v) ∷ rs) (r ∷ put k v rs))) + share f k (cond b None (cond c (Some r.1) (lookup rs k))) ≡ (f r.0 r.1 + total f rs) + f k v
-      ways true c e ih = omega arith
-      ways false true e ih = omega (arith, ap (λ (n : ℕ). f n r.1) (eqb-true k r.0 e))
-      ways false false e ih = omega arith
+  total-put k v (r ∷ rs) = let ih = total-put k v rs in grind (arith, nat_tests)
 
   pub total-without : (k : ℕ) (rs : Rows V) → total f (without k rs) + share f k (lookup rs k) ≡ total f rs
   unfolding total without lookup
   total-without k [] = refl
-  total-without k (r ∷ rs) = ways (ltb k r.0) (eqb k r.0) refl (total-without k rs)
-    where
-      ways : (b c : Bool) → eqb k r.0 ≡ c → total f (without k rs) + share f k (lookup rs k) ≡ total f rs
-          → total f (cond b (r ∷ rs) (cond c rs (r ∷ without k rs))) + share f k (cond b None (cond c (Some r.1) (lookup rs k))) ≡ f r.0 r.1 + total f rs
-      ways true c e ih = omega arith
-      ways false true e ih = omega (arith, ap (λ (n : ℕ). f n r.1) (eqb-true k r.0 e))
-      ways false false e ih = omega arith
+  total-without k (r ∷ rs) = let ih = total-without k rs in grind (arith, nat_tests)
 
   pub total-append : (xs ys : Rows V) → total f (xs ++ ys) ≡ total f xs + total f ys
   unfolding total

@@ -1,5 +1,5 @@
 -- Keys in order, and where a key stands among them.
-use Rattle.std.specs.Prelude.{◌≡◌, ℕ, ◌+◌, ◌<◌, ◌≤◌, List, length, Ok, Err, Result, slice_index}
+use Rattle.std.specs.Prelude.{◌≡◌, ℕ, ◌<◌, ◌≤◌, List, length, Ok, Err, Result, slice_index}
 
 -- each key is less than every later one
 abbrev pub Ascending : List ℕ → Type 0
@@ -23,9 +23,3 @@ pub record Split (ks : List ℕ) (key i : ℕ) : Type 0 where
   pub within : i ≤ length ks
   pub before : Before ks key i
   pub after : After ks key i
-
--- the place lies from base to base + size
-pub record Window (ks : List ℕ) (key base size : ℕ) : Type 0 where
-  pub within : base + size ≤ length ks
-  pub before : Before ks key base
-  pub after : After ks key (base + size)

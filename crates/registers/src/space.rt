@@ -2,7 +2,7 @@ ghost use Rattle.std.specs.Prelude.{◌≡◌, ◌≤◌, ◌&&◌, IfOk, vec_le
 
 use std::alloc::{AllocError, Global};
 
-/// Space for rows: empty, and reserved once for as many rows as its room states.
+/// Space for rows: empty, and reserved once for as many rows as its room states. Two vectors, since a register has two.
 #[derive(Drop)]
 pub struct Slots<T> {
     pub(crate) keys: Vec<u64>,
@@ -17,11 +17,9 @@ impl<T: Drop> Slots<T> {
     pub fn reserve(heap: Global, room: usize) -> Result<Slots<T>, AllocError>
         ensures { IfOk result (λ s. s.room ≡ room) }
     {
-        let keys = Vec::with_capacity(heap, room)?;
-        let contents = Vec::with_capacity(heap, room)?;
         Ok(Slots {
-            keys,
-            contents,
+            keys: Vec::with_capacity(heap, room)?,
+            contents: Vec::with_capacity(heap, room)?,
             room,
         })
     }
@@ -38,5 +36,5 @@ impl<T: Drop> Slots<T> {
 pub fn book_accepts(room: usize) -> bool
     ensures { result ≡ (nat_le 1 room && nat_le room 4096) }
 {
-    1 <= room && room <= 4096
+    (1..=4096).contains(&room)
 }

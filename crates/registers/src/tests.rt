@@ -3,8 +3,7 @@ ghost use Rattle.registers.specs.Rows.{lookup, put};
 ghost use Rattle.registers.specs.Held.{rows_of, room_of};
 ghost use Rattle.registers.specs.Stretches.{stretch, rewritten};
 
-use crate::{Register, Slots, Span, book_accepts};
-use std::alloc::{AllocError, Global};
+use crate::{Register, book_accepts};
 use std::test::Fail;
 
 // Writes a content through the loan of one row.
@@ -22,22 +21,15 @@ fn overwrite(register: &mut Register<u32>, a: u64, b: u64, content: u32)
     ensures rows { rows_of register.new ≡ rewritten a b (replicate (length (stretch a b (rows_of register.old))) content) (rows_of register.old) }
     ensures room { room_of register.new ≡ room_of register.old }
 {
-    let Span { from, to } = register.stretch(a, b);
-    let all = register.contents_mut();
-    let part = &mut all[from..to];
-    part.fill(content);
-}
-
-fn opened(heap: Global, room: usize) -> Result<Register<u32>, AllocError> {
-    let slots = Slots::reserve(heap, room)?;
-    Ok(Register::over(slots))
+    let places = register.stretch(a, b);
+    register.contents_mut()[places].fill(content);
 }
 
 #[test]
 fn any_room_is_reserved(rt: HostRuntime) -> Result<(), Fail> {
-    let none = opened(rt.alloc(), 0)?;
+    let none: Register<u32> = Register::with_room(rt.alloc(), 0)?;
     assert_eq!(rt; none.has_place(), false);
-    let wide = opened(rt.alloc(), 5000)?;
+    let wide: Register<u32> = Register::with_room(rt.alloc(), 5000)?;
     assert_eq!(rt; wide.room(), 5000);
     assert_eq!(rt; book_accepts(0), false);
     assert_eq!(rt; book_accepts(1), true);
@@ -48,7 +40,7 @@ fn any_room_is_reserved(rt: HostRuntime) -> Result<(), Fail> {
 
 #[test]
 fn a_full_register_refuses_one_more(rt: HostRuntime) -> Result<(), Fail> {
-    let mut register = opened(rt.alloc(), 3)?;
+    let mut register = Register::with_room(rt.alloc(), 3)?;
     assert_eq!(rt; register.put(u64::MAX, 9), Ok(()));
     assert_eq!(rt; register.put(0, 1), Ok(()));
     assert_eq!(rt; register.put(7, 5), Ok(()));
@@ -66,7 +58,7 @@ fn a_full_register_refuses_one_more(rt: HostRuntime) -> Result<(), Fail> {
 
 #[test]
 fn stretches_are_lent_and_taken(rt: HostRuntime) -> Result<(), Fail> {
-    let mut register = opened(rt.alloc(), 8)?;
+    let mut register = Register::with_room(rt.alloc(), 8)?;
     for i in 0..8u32 {
         let _ = register.put(u64::from(i) * 10, i);
     }
@@ -86,7 +78,7 @@ fn stretches_are_lent_and_taken(rt: HostRuntime) -> Result<(), Fail> {
 
 #[test]
 fn mixed_order_beside_a_plain_list(rt: HostRuntime) -> Result<(), Fail> {
-    let mut register = opened(rt.alloc(), 16)?;
+    let mut register = Register::with_room(rt.alloc(), 16)?;
     let mut plain: [Option<u32>; 16] = [None; 16];
     for i in 0..200u32 {
         let key = ((i * 7 + i / 16) % 16) as usize;

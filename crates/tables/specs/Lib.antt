@@ -1,1 +1,3 @@
 pub mod Model
+pub mod Opening
+pub mod Months

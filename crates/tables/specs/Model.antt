@@ -2,6 +2,7 @@
 use Rattle.std.specs.Prelude.{◌≡◌, ℕ, None, Ok, Err, Result}
 use Rattle.registers.specs.Held.{rows_of, room_of}
 use Rattle.terms.specs.declared.refusal.Refusal.{Refusal}
+use Rattle.series.specs.declared.numbers.SeriesNumbers.{SeriesNumbers}
 use Rattle.ledger.specs.Calls.{Series, Call, Pricing, Event}
 use Rattle.ledger.specs.Book.{Spaces, Book}
 use Rattle.ledger.specs.Judge.{Verdict}
@@ -29,6 +30,9 @@ Judges v P (Err e) = v ≡ Err e
 -- a series by the numbers that offices send
 abbrev pub numbers : ℕ → ℕ → ℕ → Series
 numbers kind month strike = record { kind = kind; month = month; strike = strike }
+
+abbrev pub numbered : SeriesNumbers → Series
+numbered n = numbers n.kind n.month n.strike
 
 -- a call that no tariff prices and that needs no scratch
 abbrev pub unpriced : Pricing

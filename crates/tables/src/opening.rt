@@ -3,28 +3,24 @@ ghost use Rattle.ledger.specs.Book.{opened};
 ghost use Rattle.ledger.specs.Judge.{judge_opening};
 ghost use Rattle.ledger.specs.Numbers.{family_of};
 ghost use Rattle.tables.specs.Model.{model_of, spaces_of, Judges};
+ghost use Rattle.tables.specs.Opening.{spaces_in};
 
+use crate::in_use::InUse;
+use crate::space::Space;
 use crate::tables::Tables;
-use ledger::{Account, Terms};
-use positions::Position;
-use registers::{Register, Slots, book_accepts};
+use registers::{Register, book_accepts};
 use terms::{Family, Reason, Refusal};
 
 impl Tables {
     /// Empty tables over the supplied space, for any number of a family.
-    pub fn open(
-        family: u8,
-        accounts: Slots<Account>,
-        series: Slots<Terms>,
-        positions: Slots<Position>,
-    ) -> Tables
-        ensures { model_of result ≡ opened family (record { accounts = accounts.room; series = series.room; positions = positions.room }) }
+    pub fn open(family: u8, space: Space) -> Tables
+        ensures { model_of result ≡ opened family (spaces_in space) }
     {
         Tables {
             family,
-            accounts: Register::over(accounts),
-            series: Register::over(series),
-            positions: Register::over(positions),
+            accounts: Register::over(space.accounts),
+            series: Register::over(space.series),
+            positions: Register::over(space.positions),
             exchange: 0,
         }
     }
@@ -33,16 +29,23 @@ impl Tables {
     pub fn usable(&self) -> Result<Family, Refusal>
         ensures { Judges (judge_opening self.now.family (spaces_of self.now)) (λ f. family_of self.now.family ≡ f) result }
     {
+        Ok(self.in_use()?.family)
+    }
+
+    /// The tables with their family, or what every call is refused for.
+    pub fn in_use(&self) -> Result<InUse<'_>, Refusal>
+        ensures { Judges (judge_opening self.now.family (spaces_of self.now)) (λ u. u.tables.now ≡ self.now) result }
+    {
         let family = Family::try_from(self.family)?;
-        if !book_accepts(self.accounts.room()) {
+        let roomy = book_accepts(self.accounts.room())
+            && book_accepts(self.series.room())
+            && book_accepts(self.positions.room());
+        if !roomy {
             return Err(Refusal::plain(Reason::NoSpace));
         }
-        if !book_accepts(self.series.room()) {
-            return Err(Refusal::plain(Reason::NoSpace));
-        }
-        if !book_accepts(self.positions.room()) {
-            return Err(Refusal::plain(Reason::NoSpace));
-        }
-        Ok(family)
+        Ok(InUse {
+            tables: self,
+            family,
+        })
     }
 }

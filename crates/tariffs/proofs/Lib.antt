@@ -1,4 +1,1 @@
-pub mod Places
-pub mod Spending
-pub mod Trades
-pub mod Settling
+pub mod Remaining

@@ -1,8 +1,5 @@
 -- Rates, in cents a contract.
-use Rattle.std.specs.Prelude.{◌≡◌, ℕ, ◌*◌, ◌≤◌, Some, None, Ok, Err, Option, Result}
-use Rattle.terms.specs.declared.refusal.Reason.TheVariants.{OutOfRange}
-use Rattle.terms.specs.declared.refusal.Refusal.{Refusal}
-use Rattle.terms.specs.Refusals.{plain}
+use Rattle.std.specs.Prelude.{ℕ, ◌*◌, ◌≤◌, Some, None, Option}
 use Rattle.tariffs.specs.declared.rate.Rate.{Rate}
 
 abbrev pub RateRange : ℕ → Type 0
@@ -25,8 +22,3 @@ cents_of (Some rate) = Some rate.cents
 abbrev pub MayBeListed : Option ℕ → Type 0
 MayBeListed None = Unit {0}
 MayBeListed (Some cents) = RateRange cents
-
--- No rate stays none; a number in range becomes its rate; any other is refused by 4.
-abbrev pub RateOrNone : Option ℕ → Result (Option Rate) Refusal → Type 0
-RateOrNone cents (Ok rate) = MayBeListed cents × (cents_of rate ≡ cents)
-RateOrNone cents (Err e) = (MayBeListed cents → ⊥) × (e ≡ plain OutOfRange)

@@ -1,4 +1,4 @@
-ghost use Rattle.std.specs.Prelude.{◌≡◌, ◌-◌, ◌*◌, ◌≤◌, ◌==◌};
+ghost use Rattle.std.specs.Prelude.{◌≡◌, ◌-◌, ◌*◌, ◌≤◌, [], ◌==◌};
 ghost use Rattle.tariffs.specs.Allowed.{allowed_price, allowed_after, lower_traded, TakesFromOne, covered, trade_fee};
 ghost use Rattle.tariffs.specs.Entries.{spent};
 ghost use Rattle.tariffs.specs.Calls.{Reduces, SetsLeft, read_left};
@@ -10,9 +10,9 @@ ghost use Rattle.tariffs.specs.Bounds.{fee_le, within_le, event_le, parts_le};
 
 use crate::entries::Entries;
 use crate::rate::Rate;
-use crate::side::{Event, LAST_ACCOUNT, Side};
+use crate::side::{Event, Side};
 use crate::tariff::Tariff;
-use terms::{Reason, Refusal};
+use terms::{AccountNumber, Refusal};
 
 /// Some contracts of an account at a reduced rate, before a lower tariff prices the others.
 #[derive(Drop)]
@@ -26,7 +26,7 @@ impl<L> Allowance<L> {
     /// An allowance without entries, its reduced rate 0.
     pub fn new(lower: L) -> Allowance<L>
         ensures reduced { result.reduced.cents ≡ 0 }
-        ensures entries { result.entries.used ≡ 0 }
+        ensures entries { result.entries.list.items ≡ [] }
         ensures lower { result.lower ≡ lower }
     {
         Allowance {
@@ -40,7 +40,7 @@ impl<L> Allowance<L> {
     pub fn set_reduced(&mut self, cents: u32) -> Result<(), Refusal>
         ensures { Reduces self.old cents self.new result }
     {
-        self.reduced = Rate::numbered(cents)?;
+        self.reduced = Rate::try_from(cents)?;
         Ok(())
     }
 
@@ -55,10 +55,8 @@ impl<L> Allowance<L> {
     pub fn left(&self, account: u16) -> Result<u32, Refusal>
         ensures { result ≡ read_left self.now.entries account }
     {
-        if account > LAST_ACCOUNT {
-            return Err(Refusal::plain(Reason::OutOfRange));
-        }
-        Ok(self.entries.left(account))
+        let account = AccountNumber::try_from(account)?;
+        Ok(self.entries.left(account.number()))
     }
 }
 
@@ -119,6 +117,7 @@ impl<L: Tariff> Tariff for Allowance<L> {
         }
     }
 
+    #[tactic(auto, using(crate::proofs::Remaining::takes_one))]
     fn charge(&mut self, side: &Side)
         ensures standing { self.new ≡ allowed_after (L.Tariff.after self.old.lower) self.old side.now }
         ensures one { TakesFromOne self.old.entries side.now.account self.new.entries }

@@ -2,7 +2,7 @@
 #![tactic(auto)]
 
 mod allowance;
-mod either;
+mod choice;
 mod entries;
 mod listing;
 mod rate;

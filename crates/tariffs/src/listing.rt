@@ -20,6 +20,15 @@ pub struct Listing {
     pub(crate) rates: [Option<Rate>; PLACES],
 }
 
+/// What the sides of one rate have in common.
+#[derive(Clone, Copy)]
+struct SideKind {
+    series_kind: SeriesKind,
+    size: Size,
+    account_kind: AccountKind,
+    event: Event,
+}
+
 impl Listing {
     /// A listing without any rate.
     pub fn new() -> Listing
@@ -41,31 +50,27 @@ impl Listing {
     ) -> Result<(), Refusal>
         ensures { Lists self.old series_kind size account_kind event rate self.new result }
     {
-        let series_kind = SeriesKind::try_from(series_kind)?;
-        let size = Size::try_from(size)?;
-        let account_kind = AccountKind::try_from(account_kind)?;
-        let event = Event::numbered(event)?;
-        let rate = Rate::or_none(rate)?;
-        self.put(place(series_kind, size, account_kind, event), rate);
+        let kind = SideKind {
+            series_kind: SeriesKind::try_from(series_kind)?,
+            size: Size::try_from(size)?,
+            account_kind: AccountKind::try_from(account_kind)?,
+            event: Event::try_from(event)?,
+        };
+        self.rates[kind.place()] = rate.map(Rate::try_from).transpose()?;
         Ok(())
-    }
-
-    fn put(&mut self, place: usize, rate: Option<Rate>)
-        requires { place < 60 }
-        ensures { listed self.new ≡ slice_set (listed self.old) place (cents_of rate) }
-    {
-        self.rates[place] = rate;
     }
 }
 
-// Where the rate of such sides stands.
-fn place(series_kind: SeriesKind, size: Size, account_kind: AccountKind, event: Event) -> usize
-    ensures value { result ≡ place_number (kind_number series_kind) (size_number size) (account_kind_number account_kind) (event_number event) }
-    ensures there { result < 60 }
-    ensures apart { Apart }
-{
-    let series = series_kind as usize * 2 + size as usize;
-    (series * 3 + account_kind as usize) * 2 + event as usize
+impl SideKind {
+    // Where the rate of such sides stands.
+    fn place(self) -> usize
+        ensures value { result ≡ place_number (kind_number self.series_kind) (size_number self.size) (account_kind_number self.account_kind) (event_number self.event) }
+        ensures there { result < 60 }
+        ensures apart { Apart }
+    {
+        let series = self.series_kind as usize * 2 + self.size as usize;
+        (series * 3 + self.account_kind as usize) * 2 + self.event as usize
+    }
 }
 
 impl Tariff for Listing {
@@ -85,12 +90,13 @@ impl Tariff for Listing {
         if !side.in_range() {
             return None;
         }
-        let place = place(side.series_kind, side.size, side.account_kind, side.event);
-        let listed = &self.rates[place];
-        match listed {
-            Some(rate) => Some(rate.fee(side.count)),
-            None => None,
-        }
+        let kind = SideKind {
+            series_kind: side.series_kind,
+            size: side.size,
+            account_kind: side.account_kind,
+            event: side.event,
+        };
+        self.rates[kind.place()].map(|rate| rate.fee(side.count))
     }
 
     fn charge(&mut self, _side: &Side) {}

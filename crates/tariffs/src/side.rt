@@ -2,23 +2,20 @@ ghost use Rattle.std.specs.Prelude.{◌≡◌, ℕ, ◌<◌};
 ghost use Rattle.terms.specs.Numbers.{Numbered};
 ghost use Rattle.tariffs.specs.Sides.{event_number, within, counting};
 
-use terms::{AccountKind, Reason, Refusal, SeriesKind, Size};
-
-/// The highest account number.
-pub(crate) const LAST_ACCOUNT: u16 = 65_534;
+use terms::{AccountKind, NO_ACCOUNT, Reason, Refusal, SeriesKind, Size};
 
 /// The most contracts of one side.
 pub(crate) const MOST_CONTRACTS: u32 = 1_000_000;
 
 /// What a side is charged for.
-#[derive(Clone, Copy)]
+#[derive(Clone, Copy, PartialEq, Eq, Debug)]
 pub enum Event {
     Trade,
     Exercise,
 }
 
 /// One account's side of a trade or an exercise.
-#[derive(Clone, Copy)]
+#[derive(Clone, Copy, PartialEq, Eq, Debug)]
 pub struct Side {
     pub account: u16,
     pub account_kind: AccountKind,
@@ -28,11 +25,13 @@ pub struct Side {
     pub count: u32,
 }
 
-impl Event {
-    /// The event with this number: 0 for a trade, 1 for an exercise.
-    pub fn numbered(number: u8) -> Result<Event, Refusal>
-        ensures { Numbered (λ n. n < 2) event_number number result }
-    {
+/// The event with this number: 0 for a trade, 1 for an exercise.
+impl TryFrom<u8> for Event {
+    type Error = Refusal;
+
+    ghost try_from_gives = { Numbered (λ n. n < 2) event_number };
+
+    fn try_from(number: u8) -> Result<Event, Refusal> {
         match number {
             0 => Ok(Event::Trade),
             1 => Ok(Event::Exercise),
@@ -46,7 +45,7 @@ impl Side {
     pub(crate) fn in_range(&self) -> bool
         ensures { result ≡ within self.now }
     {
-        self.account <= LAST_ACCOUNT && 1 <= self.count && self.count <= MOST_CONTRACTS
+        self.account != NO_ACCOUNT && (1..=MOST_CONTRACTS).contains(&self.count)
     }
 
     // The same side with so many contracts.

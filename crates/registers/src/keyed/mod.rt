@@ -6,9 +6,8 @@ mod questions;
 mod rows;
 mod stretches;
 
-pub use stretches::Span;
-
-/// Rows whose keys ascend strictly: key `i` stands over content `i`.
+/// Rows whose keys ascend strictly: key `i` stands over content `i`. Two vectors, since contents are lent for writing
+/// without the keys, and a look-up reads keys alone.
 #[derive(Drop)]
 pub struct Register<T> {
     keys: Vec<u64>,

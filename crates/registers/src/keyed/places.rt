@@ -1,88 +1,32 @@
 // Rows by their places.
 ghost use Rattle.std.specs.Prelude.{◌≡◌, ◌<◌, ◌≤◌, ◌++◌, length, take, drop, Some, None, Ok, Err, MatchResult, slice_index, slice_index_or, slice_set};
 ghost use Rattle.std.specs.List.{insert, remove, slice_get};
-ghost use Rattle.registers.specs.Keys.{Found};
+ghost use Rattle.registers.specs.Keys.{Found, Split};
 ghost use Rattle.registers.specs.Rows.{below, keys_in, contents_in, lookup};
 ghost use Rattle.registers.specs.Held.{keys_of, contents_of, rows_of, room_of};
 
 use super::Register;
-use crate::cut::cut;
-use crate::seek::seek;
+use crate::seek::count_below;
 
 impl<T: Drop> Register<T> {
+    // How many rows stand before the first whose key is at least `key`.
+    pub(super) fn lower_bound(&self, key: u64) -> usize
+        ensures split { Split (keys_of self.now) key result }
+        ensures value { result ≡ below key (rows_of self.now) }
+    {
+        count_below(&self.keys, key)
+    }
+
     // Where the key stands, or where it goes.
     pub(super) fn find(&self, key: u64) -> Result<usize, usize>
         ensures place { Found (keys_of self.now) key result }
-        ensures bound { MatchResult result (λ i. i ≡ below key (rows_of self.now)) (λ i. i ≡ below key (rows_of self.now)) }
         ensures held { MatchResult result (λ i. slice_get (contents_in (rows_of self.now)) i ≡ lookup (rows_of self.now) key) (λ _. None ≡ lookup (rows_of self.now) key) }
     {
-        seek(self.keys.as_slice(), key)
-    }
-
-    // Where the key's row stands, or past the last row.
-    pub(super) fn row_of(&self, key: u64) -> usize
-        ensures held { slice_get (contents_in (rows_of self.now)) result ≡ lookup (rows_of self.now) key }
-        ensures place { result < length (contents_of self.now) → Found (keys_of self.now) key (Ok result) }
-    {
-        match self.find(key) {
-            Ok(i) => return i,
-            Err(_) => return self.contents.len(),
+        let place = self.lower_bound(key);
+        if self.keys.get(place) == Some(&key) {
+            Ok(place)
+        } else {
+            Err(place)
         }
-    }
-
-    pub(super) fn key(&self, i: usize) -> u64
-        requires { i < length (rows_of self.now) }
-        ensures { result ≡ slice_index (keys_in (rows_of self.now)) i }
-    {
-        self.keys()[i]
-    }
-
-    pub(super) fn content(&self, i: usize) -> &T
-        requires { i < length (contents_of self.now) }
-        ensures { Some result.now ≡ slice_get (contents_in (rows_of self.now)) i }
-    {
-        &self.contents[i]
-    }
-
-    pub(super) fn replace_at(&mut self, i: usize, content: T)
-        requires { i < length (keys_of self.old) }
-        ensures keys { keys_of self.new ≡ keys_of self.old }
-        ensures contents { contents_of self.new ≡ slice_set (contents_of self.old) i content }
-        ensures room { room_of self.new ≡ room_of self.old }
-    {
-        self.contents[i] = content;
-    }
-
-    pub(super) fn insert_at(&mut self, i: usize, key: u64, content: T)
-        requires place { Found (keys_of self.old) key (Err i) }
-        requires space { length (rows_of self.old) < room_of self.old }
-        ensures keys { keys_of self.new ≡ insert (keys_of self.old) i key }
-        ensures contents { contents_of self.new ≡ insert (contents_of self.old) i content }
-        ensures room { room_of self.new ≡ room_of self.old }
-    {
-        let _ = self.keys.insert(i, key);
-        let _ = self.contents.insert(i, content);
-    }
-
-    pub(super) fn remove_at(&mut self, i: usize) -> T
-        requires { i < length (keys_of self.old) }
-        ensures value { result ≡ slice_index_or (contents_of self.old) i result }
-        ensures keys { keys_of self.new ≡ remove (keys_of self.old) i }
-        ensures contents { contents_of self.new ≡ remove (contents_of self.old) i }
-        ensures room { room_of self.new ≡ room_of self.old }
-    {
-        self.keys.remove(i);
-        self.contents.remove(i)
-    }
-
-    // Takes the rows from the place `from` to the place `to` out.
-    pub(super) fn cut_rows(&mut self, from: usize, to: usize)
-        requires forward { from ≤ to }
-        requires within { to ≤ length (rows_of self.old) }
-        ensures rows { rows_of self.new ≡ take from (rows_of self.old) ++ drop to (rows_of self.old) }
-        ensures room { room_of self.new ≡ room_of self.old }
-    {
-        cut(&mut self.keys, from, to);
-        cut(&mut self.contents, from, to);
     }
 }

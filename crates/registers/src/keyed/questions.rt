@@ -1,8 +1,9 @@
-ghost use Rattle.std.specs.Prelude.{◌≡◌, ◌≤◌, [], length, vec_len, vec_capacity};
+ghost use Rattle.std.specs.Prelude.{◌≡◌, ◌≤◌, [], length, IfOk};
 ghost use Rattle.registers.specs.Held.{rows_of, room_of};
 
 use super::Register;
 use crate::space::Slots;
+use std::alloc::{AllocError, Global};
 
 impl<T: Drop> Register<T> {
     /// A register with no rows, over the space.
@@ -15,20 +16,19 @@ impl<T: Drop> Register<T> {
             contents,
             room,
         } = slots;
-        Register::empty(keys, contents, room)
-    }
-
-    fn empty(keys: Vec<u64>, contents: Vec<T>, room: usize) -> Register<T>
-        requires none { (vec_len keys ≡ 0) × (vec_len contents ≡ 0) }
-        requires roomy { (room ≤ vec_capacity keys) × (room ≤ vec_capacity contents) }
-        ensures rows { rows_of result ≡ [] }
-        ensures room { room_of result ≡ room }
-    {
         Register {
             keys,
             contents,
             room,
         }
+    }
+
+    /// A register with no rows and space for `room` rows, any number. Fails only for want of memory.
+    pub fn with_room(heap: Global, room: usize) -> Result<Register<T>, AllocError>
+        ensures rows { IfOk result (λ r. rows_of r ≡ []) }
+        ensures room { IfOk result (λ r. room_of r ≡ room) }
+    {
+        Slots::reserve(heap, room).map(Register::over)
     }
 
     /// How many rows it may have.

@@ -13,10 +13,8 @@ impl<T: Drop> Register<T> {
     pub fn get(&self, key: u64) -> Option<&T>
         ensures { option_map (λ x. x.now) result ≡ lookup (rows_of self.now) key }
     {
-        match self.find(key) {
-            Ok(i) => Some(self.content(i)),
-            Err(_) => None,
-        }
+        let place = self.find(key).ok()?;
+        self.content_at(place)
     }
 
     /// Lends the content under the key for writing: what stands there at the end is put in.
@@ -24,8 +22,8 @@ impl<T: Drop> Register<T> {
         ensures* writes_back { sem 𝓛 (follows_so (the_row T.row) T.row self.entry.ghost_name (name_of result) (λ w s. (is_some result ≡ true → rows_of s ≡ put key w (rows_of self.old)) × (room_of s ≡ room_of self.old)) (λ s. s ≡ self.old)) }
         ensures facts { option_map (λ x. x.now) result ≡ lookup (rows_of self.old) key }
     {
-        let i = self.row_of(key);
-        self.contents.get_mut(i)
+        let place = self.find(key).ok()?;
+        self.contents.get_mut(place)
     }
 
     /// Whether there is place for one more row.
@@ -37,36 +35,34 @@ impl<T: Drop> Register<T> {
 
     /// Puts the content under the key, in place of what stands there. Where there is no place for one more row, it is
     /// given back, and nothing changes.
+    #[tactic(auto, using(crate::proofs::Always::facts))]
     pub fn put(&mut self, key: u64, content: T) -> Result<(), T>
         ensures answer { result ≡ answered (place_for key (rows_of self.old) (room_of self.old)) content }
         ensures rows { rows_of self.new ≡ (if place_for key (rows_of self.old) (room_of self.old) then put key content (rows_of self.old) else rows_of self.old) }
         ensures room { room_of self.new ≡ room_of self.old }
     {
         match self.find(key) {
-            Ok(i) => {
-                self.replace_at(i, content);
-                return Ok(());
+            Ok(place) => self.contents[place] = content,
+            Err(place) if self.has_place() => {
+                // Within the reserved capacity an insert succeeds.
+                let _ = self.keys.insert(place, key);
+                let _ = self.contents.insert(place, content);
             }
-            Err(i) => {
-                if !self.has_place() {
-                    return Err(content);
-                }
-                self.insert_at(i, key, content);
-                return Ok(());
-            }
+            Err(_) => return Err(content),
         }
+        Ok(())
     }
 
     /// Takes the row of the key out, and answers its content.
+    #[tactic(auto, using(crate::proofs::Kept::taken))]
     pub fn take(&mut self, key: u64) -> Option<T>
         ensures answer { result ≡ lookup (rows_of self.old) key }
         ensures rows { rows_of self.new ≡ without key (rows_of self.old) }
         ensures room { room_of self.new ≡ room_of self.old }
     {
-        match self.find(key) {
-            Ok(i) => return Some(self.remove_at(i)),
-            Err(_) => return None,
-        }
+        let place = self.find(key).ok()?;
+        self.keys.remove(place);
+        Some(self.contents.remove(place))
     }
 }
 
@@ -75,9 +71,6 @@ impl<T: Copy + Drop> Register<T> {
     pub fn read(&self, key: u64) -> Option<T>
         ensures { result ≡ lookup (rows_of self.now) key }
     {
-        match self.find(key) {
-            Ok(i) => Some(*self.content(i)),
-            Err(_) => None,
-        }
+        self.get(key).copied()
     }
 }

@@ -9,44 +9,22 @@ ghost use Rattle.registers.specs.Held.{rows_of, room_of, with_contents};
 ghost use Rattle.registers.specs.contracts.keyed.Register.{the_row};
 
 use super::Register;
-
-/// The places of a stretch: from the first to before the last.
-#[derive(Clone, Copy)]
-pub struct Span {
-    pub from: usize,
-    pub to: usize,
-}
+use std::ops::Range;
 
 impl<T: Drop> Register<T> {
-    // How many rows stand before the first whose key is at least `key`.
-    fn lower_bound(&self, key: u64) -> usize
-        ensures { result ≡ below key (rows_of self.now) }
-    {
-        match self.find(key) {
-            Ok(i) => i,
-            Err(i) => i,
-        }
-    }
-
     /// The places of the rows whose keys lie from `a` to below `b`.
-    pub fn stretch(&self, a: u64, b: u64) -> Span
-        ensures places { StretchAt a b (rows_of self.now) result.from result.to }
-        ensures left { take result.from (rows_of self.now) ++ drop result.to (rows_of self.now) ≡ front a (rows_of self.now) ++ rest a b (rows_of self.now) }
-        ensures held { between result.from result.to (contents_in (rows_of self.now)) ≡ contents_in (stretch a b (rows_of self.now)) }
-        ensures forward { result.from ≤ result.to }
-        ensures within { result.to ≤ length (rows_of self.now) }
+    pub fn stretch(&self, a: u64, b: u64) -> Range<usize>
+        ensures places { StretchAt a b (rows_of self.now) result.start result.end }
+        ensures left { take result.start (rows_of self.now) ++ drop result.end (rows_of self.now) ≡ front a (rows_of self.now) ++ rest a b (rows_of self.now) }
+        ensures held { between result.start result.end (contents_in (rows_of self.now)) ≡ contents_in (stretch a b (rows_of self.now)) }
+        ensures forward { result.start ≤ result.end }
+        ensures within { result.end ≤ length (rows_of self.now) }
     {
-        let from = self.lower_bound(a);
-        if b <= a {
-            return Span { from, to: from };
-        }
-        Span {
-            from,
-            to: self.lower_bound(b),
-        }
+        self.lower_bound(a)..self.lower_bound(a.max(b))
     }
 
     /// The keys, row by row: each is greater than the one before it.
+    #[tactic(auto, using(crate::proofs::Always::facts))]
     pub fn keys(&self) -> &[u64]
         ensures value { result.now ≡ keys_in (rows_of self.now) }
         ensures len { length result.now ≡ length (rows_of self.now) }
@@ -57,6 +35,7 @@ impl<T: Drop> Register<T> {
     }
 
     /// The contents, row by row.
+    #[tactic(auto, using(crate::proofs::Always::facts))]
     pub fn contents(&self) -> &[T]
         ensures value { result.now ≡ contents_in (rows_of self.now) }
         ensures len { length result.now ≡ length (rows_of self.now) }
@@ -68,9 +47,7 @@ impl<T: Drop> Register<T> {
     pub fn stretch_contents(&self, a: u64, b: u64) -> &[T]
         ensures { result.now ≡ contents_in (stretch a b (rows_of self.now)) }
     {
-        let Span { from, to } = self.stretch(a, b);
-        let all = self.contents();
-        &all[from..to]
+        &self.contents()[self.stretch(a, b)]
     }
 
     /// Lends the contents for writing, row by row: the register then holds what was written, under the same keys.
@@ -86,35 +63,29 @@ impl<T: Drop> Register<T> {
     }
 
     /// Takes the rows whose keys lie from `a` to below `b` out, in one move, and answers how many they were.
+    #[tactic(auto, using(crate::proofs::Always::facts, crate::proofs::Cuts::cuts))]
     pub fn take_stretch(&mut self, a: u64, b: u64) -> usize
         ensures answer { result ≡ length (stretch a b (rows_of self.old)) }
         ensures rows { rows_of self.new ≡ front a (rows_of self.old) ++ rest a b (rows_of self.old) }
         ensures room { room_of self.new ≡ room_of self.old }
     {
-        let Span { from, to } = self.stretch(a, b);
-        self.cut_rows(from, to);
-        to - from
+        let Range { start, end } = self.stretch(a, b);
+        drop(self.keys.drain(start..end));
+        drop(self.contents.drain(start..end));
+        end - start
     }
 
     /// The key at the place.
     pub fn key_at(&self, place: usize) -> Option<u64>
         ensures { result ≡ slice_get (keys_in (rows_of self.now)) place }
     {
-        if place < self.len() {
-            Some(self.key(place))
-        } else {
-            None
-        }
+        self.keys().get(place).copied()
     }
 
     /// The content at the place.
     pub fn content_at(&self, place: usize) -> Option<&T>
         ensures { option_map (λ x. x.now) result ≡ slice_get (contents_in (rows_of self.now)) place }
     {
-        if place < self.keys.len() {
-            Some(self.content(place))
-        } else {
-            None
-        }
+        self.contents().get(place)
     }
 }

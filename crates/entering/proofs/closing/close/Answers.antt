@@ -1,6 +1,7 @@
-use Rattle.std.proofs.Common.{◌≡◌, ℕ, ◌≤◌, Bool, true, false, ◌||◌, ltb, length, refl, ap, ◌∙◌, subst}
-use Rattle.std.proofs.lemmas.Result.{err_from_is_err_and}
+use Rattle.std.proofs.Common.{◌≡◌, ℕ, ◌≤◌, Bool, true, false, ◌||◌, ltb, length, refl, ap, ◌∙◌, subst, arith}
+use Rattle.std.proofs.lemmas.Grind.{common_steps}
 use Rattle.registers.specs.Held.{rows_of, room_of}
+use Rattle.registers.specs.Rows.{place_for}
 use Rattle.positions.specs.declared.position.Position.{Position}
 use Rattle.positions.specs.Keys.{line_key}
 use Rattle.positions.specs.Positions.{flat, closable, closed}
@@ -14,24 +15,10 @@ use Rattle.ledger.proofs.Accepted.{ClosePassed, passed}
 use Rattle.ledger.proofs.PositionLaws.{closable_minis}
 use Rattle.ledger.proofs.RowLaws.{at_absent}
 use Rattle.tables.specs.declared.tables.Tables.{Tables}
-use Rattle.tables.specs.Model.{model_of, unpriced, numbers}
-use Rattle.tables.proofs.Following.{refused, accepted, judge_is, never_opened}
+use Rattle.tables.specs.Model.{model_of, unpriced, numbered}
+use Rattle.tables.proofs.Following.{accepted, judge_is}
 use Rattle.entering.specs.Closed.{ClosedAt}
 use Rattle.entering.proofs.closing.close.Goals as goal
-
-pub closed-requires : goal.closed-requires
-closed-requires c = c.in_ok-family.ensures.1
-
-pub returns-in_err-family : goal.returns-in_err-family
-returns-in_err-family c =
-    let p = err_from_is_err_and c.from_residual.result c.from_residual.ensures.1 in
-    rw (p.1, p.2) (refused _ c.args.tables.now _ _ refl (never_opened c.args.tables.now _ _ c.in_err-family.ensures))
-
-pub returns-in_err-left : goal.returns-in_err-left
-unfolding judging.judge_call
-returns-in_err-left c =
-    let p = err_from_is_err_and c.from_residual-in_err-left.result c.from_residual-in_err-left.ensures.1 in
-    rw (p.1, p.2) (refused _ c.args.tables.now _ _ refl (judge_is c.args.tables.now _ c.in_ok-family.ensures.0 ∙ c.in_err-left.ensures))
 
 -- what is closed is there
 there : (t : Tables) (s a k : ℕ) → closable k (position_at (model_of t) s a) ≡ true → 1 ≤ k → present (rows_of t.positions) (line_key s a) ≡ true
@@ -41,30 +28,21 @@ there t s a k e h = ways (present (rows_of t.positions) (line_key s a)) refl
     ways true q = refl
     ways false q = absurd (closable_minis k flat h refl (subst (λ (p : Position). closable k p ≡ true) (at_absent flat (line_key s a) (rows_of t.positions) q) e))
 
-pub place-requires : goal.place-requires
-unfolding judging.judge_call
-place-requires c =
-    let t = c.args.tables.now in
-    let x = numbers c.args.kind c.args.month c.args.strike in
-    let k = c.args.count in
-    let π : ClosePassed (model_of t) x c.args.account k = passed (model_of t) (close x c.args.account k) unpriced 0 (model_of t) c.in_ok-left.ensures.0 in
-    let f : ClosedAt t (key_of x) c.args.account k c.in_ok-left.left = c.in_ok-left.ensures.1 in
-    rw f.has_key (ap (λ (b : Bool). b || ltb (length (rows_of t.positions)) (room_of t.positions)) (there t (key_of x) c.args.account k π.enough π.some))
-
 pub returns : goal.returns
 unfolding judging.judge_call post revise
 returns c =
     let t = c.args.tables.now in
-    let x = numbers c.args.kind c.args.month c.args.strike in
-    let f : ClosedAt t (key_of x) c.args.account c.args.count c.in_ok-left.left = c.in_ok-left.ensures.1 in
-    let rows : rows_of c.place.new.positions ≡ placed (line_key (key_of x) c.args.account) (closed c.args.count (position_at (model_of t) (key_of x) c.args.account)) (rows_of t.positions)
-    = c.place.ensures.rows ∙ rw (f.has_key, f.has_position) refl in
-    accepted _ t _ (judge_is t _ c.in_ok-family.ensures.0 ∙ c.in_ok-left.ensures.0)
-    (λ i. record {
-      family = t.family;
-      spaces = record { accounts = room_of t.accounts; series = room_of t.series; positions = c.place.ensures.room i };
-      accounts = rows_of t.accounts;
-      series = rows_of t.series;
-      positions = rows i;
-      exchange = t.exchange;
-    })
+    let x = numbered c.args.numbers in
+    let a = c.args.account in
+    let k = c.args.count in
+    let o = c.in_ok-in_use.ensures in
+    let e = rw o.1 at c.in_ok-left.ensures in
+    let π : ClosePassed (model_of t) x a k = passed (model_of t) (close x a k) unpriced 0 (model_of t) e.0 in
+    let f : ClosedAt t (key_of x) a k c.in_ok-left.left = e.1 in
+    let there : place_for (line_key (key_of x) a) (rows_of t.positions) (room_of t.positions) ≡ true
+    = ap (λ (b : Bool). b || ltb (length (rows_of t.positions)) (room_of t.positions)) (there t (key_of x) a k π.enough π.some) in
+    let q = c.place.ensures.rows in
+    let r = c.place.ensures.room in
+    let h : rows_of c.place.new.positions ≡ placed (line_key (key_of x) a) (closed k (position_at (model_of t) (key_of x) a)) (rows_of t.positions)
+    = grind (arith, common_steps, there, q, f.has_key, f.has_position) in
+    accepted _ t _ (judge_is t _ o.0 ∙ e.0) (grind (arith, common_steps, h, r))

@@ -1,13 +1,12 @@
-use Rattle.std.proofs.Common.{refl}
-use Rattle.registers.proofs.Kept.{reads, misses, removes, stays}
+use Rattle.std.proofs.Common.{Ok, sym, subst, rules}
+use Rattle.registers.specs.Keys.{Ascending, Found}
+use Rattle.registers.specs.Held.{keys_of}
+use Rattle.registers.proofs.Order.{ascending_removed}
 use Rattle.registers.proofs.keyed.Register.take.Goals as goal
 
-pub returns-in-Ok : goal.returns-in-Ok
-returns-in-Ok g c =
+pub invariant_of-self-clause-ascends : goal.invariant_of-self-clause-ascends
+invariant_of-self-clause-ascends g c =
     let r = c.args.self.now in
-    let f = c.in-Ok.ensures.place in
-    let e = c.remove_at.ensures in
-    record { answer = reads r c.args.key c.in-Ok.i c.remove_at.result f e.value; rows = removes r c.args.key c.in-Ok.i c.remove_at.new.self f e.keys e.contents; room = e.room }
-
-pub returns-in-Err : goal.returns-in-Err
-returns-in-Err g c = record { answer = misses c.args.self.now c.args.key _ c.in-Err.ensures.place; rows = stays c.args.self.now c.args.key _ c.in-Err.ensures.place; room = refl }
+    let i = c.in_ok-place.place in
+    let f : Found (keys_of r) c.args.key (Ok i) = search rules in
+    subst Ascending (sym c.remove.ensures.items) (ascending_removed (keys_of r) i r.ascends f.0)

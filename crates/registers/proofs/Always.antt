@@ -29,13 +29,12 @@ pub contents_are : {X : Type 0} (r : Register X) → contents_of r ≡ contents_
 unfolding rows_of
 contents_are r = sym (seconds-zip (keys_of r) (contents_of r) (level r))
 
-tail_ascends : (k : ℕ) (ks : List ℕ) → Ascending (k ∷ ks) → Ascending ks
-tail_ascends k ks a i j h l = a (suc i) (suc j) (omega arith) (omega arith)
-
 zipped_rises : {X : Type 0} (lo : ℕ) (ks : List ℕ) (vs : List X) → Ascending ks → (0 < length ks → lo ≤ get_or ks 0 0) → Rising lo (zip ks vs)
 zipped_rises lo [] vs a h = tt
 zipped_rises lo (k ∷ ks) [] a h = tt
-zipped_rises lo (k ∷ ks) (v ∷ vs) a h = (h (omega arith), zipped_rises (suc k) ks vs (tail_ascends k ks a) (λ g. a 0 1 (omega arith) (omega arith)))
+zipped_rises lo (k ∷ ks) (v ∷ vs) a h =
+    let rest = zipped_rises (suc k) ks vs (λ i j l m. a (suc i) (suc j) (omega arith) (omega arith)) (λ g. a 0 1 (omega arith) (omega arith)) in
+    grind arith
 
 pub rising : {X : Type 0} (r : Register X) → Rising 0 (rows_of r)
 unfolding rows_of

@@ -1,8 +1,8 @@
 ghost use Rattle.std.specs.Prelude.{◌≡◌};
 ghost use Rattle.registers.specs.Keys.{Ascending, Split};
 
-// How many of the keys are less than the key, by a search of which no branch depends on a key that is read. At 4,096 rows
-// it takes 1.1 times as long as Rust's own search; the library's `binary_search` takes 2.1 times, `partition_point` 2.4 times.
+// How many of the keys are less than the key, by a search of which no branch depends on a key that is read.
+// At 4,096 rows a look-up takes 1.1 times as long as in plain Rust, with `binary_search` 2.1 times, `partition_point` 2.4 times.
 pub(crate) fn count_below(keys: &[u64], key: u64) -> usize
     requires { Ascending keys.now }
     ensures { Split keys.now key result }
@@ -16,9 +16,8 @@ pub(crate) fn count_below(keys: &[u64], key: u64) -> usize
         base += quarter * (less(last) + less(last + quarter) + less(last + 2 * quarter));
         size -= 3 * quarter;
     }
-    while size > 0 {
+    for _ in 0..size {
         base += less(base);
-        size -= 1;
     }
     base
 }

@@ -9,3 +9,5 @@ mod Reading
 mod Tested
 mod Weights
 mod Whole
+mod Allowing
+mod Affording

@@ -1,5 +1,5 @@
 -- Two positions of one series changed, of two accounts: what stands there, how many rows there are, and in which order they are written.
-use Rattle.std.proofs.Common.{◌≡◌, ℕ, suc, ◌+◌, ◌<◌, ◌≤◌, Bool, true, false, cond, [], ◌∷◌, length, is_some, Some, None, Option, unwrap_or, sym, refl, ap, ◌∙◌, arith}
+use Rattle.std.proofs.Common.{◌≡◌, ℕ, suc, ◌+◌, ◌<◌, ◌≤◌, Bool, true, false, ◌||◌, cond, [], ◌∷◌, length, is_some, Some, None, Option, unwrap_or, sym, refl, ap, ◌∙◌, arith}
 use Rattle.std.proofs.lemmas.Bool.{lt-ltb, or_left, or_right}
 use Rattle.std.proofs.lemmas.Bool.Decides.{nat_tests}
 use Rattle.registers.specs.Rows.{Rows, Rising, lookup, put, without, place_for}
@@ -111,3 +111,11 @@ goes_first k j p ps o n = ways (is_flat p)
     ways : (c : Bool) → without k (cond c (without j ps) (put j p ps)) ≡ cond c (without j (without k ps)) (put j p (without k ps))
     ways true = without_without k j 0 ps o n
     ways false = without_put k j p 0 ps o n
+
+-- a position whose row fits is placed
+pub placed_fits : (k : ℕ) (p : Position) (rs : Rows Position) (room : ℕ) → length (placed k p rs) ≤ room → (is_flat p || place_for k rs room) ≡ true
+placed_fits k p rs room h = ways (is_flat p) h
+  where
+    ways : (c : Bool) → length (cond c (without k rs) (put k p rs)) ≤ room → (c || place_for k rs room) ≡ true
+    ways true h = refl
+    ways false h = place_for_lem k p rs room h

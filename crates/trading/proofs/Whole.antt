@@ -1,9 +1,8 @@
 -- The answer to a trade is that of its parts, one after the other.
-use Rattle.std.proofs.Common.{◌≡◌, ℕ, ◌≤◌, Ok, sym, refl, ◌∙◌}
-use Rattle.std.proofs.lemmas.Bool.{and_parts, leb-true}
+use Rattle.std.proofs.Common.{◌≡◌, Ok, sym, refl, ◌∙◌}
 use Rattle.charges.specs.Fees.{rated_all}
 use Rattle.ledger.specs.Calls.{Trade, Pricing, trade}
-use Rattle.ledger.specs.Book.{Spaces, Book, family_in}
+use Rattle.ledger.specs.Book.{Book, family_in}
 use Rattle.ledger.specs.Charges.{charged}
 use Rattle.ledger.specs.Post.{post}
 use Rattle.ledger.specs.Judge.{Verdict, also, judge_trade, judge_call, judge_opening}
@@ -14,7 +13,7 @@ use Rattle.tables.specs.Model.{model_of, spaces_of}
 use Rattle.tables.proofs.Following.{judge_is}
 use Rattle.trading.specs.Deals.{event_of}
 use Rattle.trading.specs.Parts.{asked, known, allowed, afforded}
-use Rattle.trading.proofs.Chains.{need_so, also_need}
+use Rattle.trading.proofs.Chains.{also_need}
 
 also_done : (w : Verdict) → also (Ok tt) w ≡ w
 unfolding also
@@ -45,11 +44,3 @@ passed b t p h =
     let k = also_so _ _ a.1 in
     let l = also_so _ _ k.1 in
     record { known_so = k.0; allowed_so = l.0 }
-
-pub opened_room : (f : ℕ) (z : Spaces) → judge_opening f z ≡ Ok tt → z.positions ≤ 4096
-opened_room f z h =
-    let a = need_so _ _ _ h in
-    let b = need_so _ _ _ a.1 in
-    let c = need_so _ _ _ b.1 in
-    let d = need_so _ _ _ c.1 in
-    leb-true z.positions 4096 (and_parts _ _ d.0).1

@@ -1,6 +1,7 @@
 -- A trade's numbers, and a deal's, as the rules have them.
 use Rattle.series.specs.declared.series.Series.{Series}
 use Rattle.terms.specs.Kinds.{kind_number, size_number}
+use Rattle.tables.specs.Model.{numbered}
 use Rattle.ledger.specs.Calls as calls
 use Rattle.ledger.specs.Calls.{Event, Pricing}
 use Rattle.trading.specs.declared.order.Trade.{Trade}
@@ -8,7 +9,7 @@ use Rattle.trading.specs.declared.deal.Deal.{Deal}
 
 abbrev pub trade_of : Trade → calls.Trade
 trade_of t = record {
-  series = record { kind = t.kind; month = t.month; strike = t.strike };
+  series = numbered t.series;
   size = t.size;
   buyer = t.buyer;
   seller = t.seller;
@@ -28,8 +29,8 @@ abbrev pub trade_in : Deal → calls.Trade
 trade_in d = record {
   series = series_from d.series;
   size = size_number d.size;
-  buyer = d.buyer;
-  seller = d.seller;
-  count = d.count;
+  buyer = d.buyer.number;
+  seller = d.seller.number;
+  count = d.count.count;
   price = d.price.hundredths;
 }

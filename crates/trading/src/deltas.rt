@@ -1,54 +1,46 @@
 // An account's delta.
 ghost use Rattle.std.specs.Prelude.{◌≡◌, ◌^◌, ◌≤◌, unsigned_abs};
-ghost use Rattle.registers.specs.Held.{room_of};
 ghost use Rattle.ledger.specs.Book.{delta_at, delta_of};
 ghost use Rattle.tables.specs.Model.{model_of};
 ghost use Rattle.trading.specs.Found.{weighs_on};
 
-use positions::Position;
-use tables::Tables;
+use positions::{Position, account_of_key, is_future_key, series_of_key};
+use tables::{InUse, Tables};
+use terms::AccountNumber;
 
-/// The keys of two months' futures lie so far apart.
-const MONTH: u64 = 655_360;
+/// The delta of a future, in ten-thousandths.
+const OF_FUTURE: i32 = 10_000;
 
-/// The keys of two series' positions lie so far apart.
-const ACCOUNTS: u64 = 65_536;
-
-/// The delta of a series by its key, in ten-thousandths: a future's is 10,000.
+/// The delta of a series by its key, in ten-thousandths.
 pub(crate) fn delta_at(tables: &Tables, series: u64) -> i32
     ensures { result ≡ delta_at (model_of tables.now) series }
 {
-    if series % MONTH == 0 {
-        return 10_000;
+    if is_future_key(series) {
+        return OF_FUTURE;
     }
-    match tables.series.read(series) {
-        Some(terms) => terms.value,
-        None => 0,
-    }
+    tables.series.read(series).map_or(0, |terms| terms.value)
 }
 
 // What a position adds to the delta of the account: nothing where it is another's.
-fn weighs(tables: &Tables, account: u16, key: u64, position: Position) -> i128
-    ensures value { result ≡ weighs_on (model_of tables.now) account key position }
+fn weighs(tables: &Tables, account: AccountNumber, key: u64, position: Position) -> i128
+    ensures value { result ≡ weighs_on (model_of tables.now) account.number key position }
     ensures bound { unsigned_abs result ≤ 2 ^ 66 }
 {
-    if key % ACCOUNTS != u64::from(account) {
+    if account_of_key(key) != account.number() {
         return 0;
     }
-    i128::from(position.units()) * i128::from(delta_at(tables, key / ACCOUNTS))
+    i128::from(position.units()) * i128::from(delta_at(tables, series_of_key(key)))
 }
 
 /// Units × delta, added up over the account's positions.
-pub(crate) fn delta_of(tables: &Tables, account: u16) -> i128
-    requires { room_of tables.now.positions ≤ 4096 }
-    ensures value { result ≡ delta_of (model_of tables.now) account }
+pub(crate) fn delta_of(book: &InUse, account: AccountNumber) -> i128
+    ensures value { result ≡ delta_of (model_of book.now.tables.now) account.number }
     ensures bound { unsigned_abs result ≤ 2 ^ 78 }
 {
-    let keys = tables.positions.keys();
-    let positions = tables.positions.contents();
+    let positions = &book.tables.positions;
     let mut sum: i128 = 0;
-    for i in 0..keys.len() {
-        sum += weighs(tables, account, keys[i], positions[i]);
+    for (key, position) in positions.keys().iter().zip(positions.contents()) {
+        sum += weighs(book.tables, account, *key, *position);
     }
     sum
 }

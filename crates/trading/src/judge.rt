@@ -2,47 +2,35 @@
 ghost use Rattle.std.specs.Prelude.{◌≡◌, Ok};
 ghost use Rattle.charges.specs.Fees.{rated_all};
 ghost use Rattle.ledger.specs.Calls as calls;
-ghost use Rattle.ledger.specs.Book.{family_in};
 ghost use Rattle.ledger.specs.Charges.{charged};
 ghost use Rattle.ledger.specs.Post.{post};
 ghost use Rattle.ledger.specs.Judge.{also};
 ghost use Rattle.ledger.specs.Runs.{judge};
 ghost use Rattle.tables.specs.Model.{Judges, model_of};
 ghost use Rattle.trading.specs.Deals.{trade_of, event_of, trade_in};
-ghost use Rattle.trading.specs.Parts.{known, afforded};
-ghost use Rattle.trading.specs.Found.{parties_at, MovesOf, OutcomeOf};
+ghost use Rattle.trading.specs.Parts.{afforded};
+ghost use Rattle.trading.specs.Found.{OutcomeOf};
 
-use crate::amounts::{outcome, side};
-use crate::deal::Deal;
 use crate::door::deal;
-use crate::found::{Moves, Outcome, Parties};
-use crate::limits::{allowed, moves};
+use crate::found::Outcome;
+use crate::known::KnownDeal;
 use crate::order::Trade;
 use crate::reads::parties;
 use charges::quote_both;
 use tables::Tables;
 use tariffs::Tariff;
-use terms::{Family, Refusal};
+use terms::Refusal;
 
-// Both fees in the tariff's standing, 13 where one has no rate, and what the deal comes to at them.
-fn priced<T: Tariff>(
-    tables: &Tables,
-    tariff: &T,
-    family: Family,
-    deal: &Deal,
-    parties: &Parties,
-    moves: &Moves,
-) -> Result<Outcome, Refusal>
-    requires family { family_in (model_of tables.now) ≡ family }
-    requires known { known (model_of tables.now) (trade_in deal.now) ≡ Ok tt }
-    requires parties { parties.now ≡ parties_at (model_of tables.now) (trade_in deal.now) }
-    requires moves { MovesOf (model_of tables.now) (trade_in deal.now) moves.now }
-    ensures { Judges (also (rated_all (T.Tariff.price tariff.now) (charged (model_of tables.now) (calls.trade (trade_in deal.now)))) (afforded (trade_in deal.now) (post (model_of tables.now) (calls.trade (trade_in deal.now)) (T.Tariff.price tariff.now)))) (OutcomeOf (model_of tables.now) (trade_in deal.now) (T.Tariff.price tariff.now)) result }
-{
-    let buyer = side(deal, deal.buyer, parties.buyer.kind);
-    let seller = side(deal, deal.seller, parties.seller.kind);
-    let fees = quote_both(tariff, &buyer, &seller)?;
-    outcome(tables, family, deal, parties, moves, fees)
+impl KnownDeal<'_> {
+    // Both fees in the tariff's standing, 13 where one has no rate, and what the deal comes to at them.
+    fn priced<T: Tariff>(&self, tariff: &T) -> Result<Outcome, Refusal>
+        ensures { Judges (also (rated_all (T.Tariff.price tariff.now) (charged (model_of self.now.book.tables.now) (calls.trade (trade_in self.now.deal)))) (afforded (trade_in self.now.deal) (post (model_of self.now.book.tables.now) (calls.trade (trade_in self.now.deal)) (T.Tariff.price tariff.now)))) (OutcomeOf (model_of self.now.book.tables.now) (trade_in self.now.deal) (T.Tariff.price tariff.now)) result }
+    {
+        let buyer = self.deal.side(self.deal.buyer, self.parties.buyer.kind);
+        let seller = self.deal.side(self.deal.seller, self.parties.seller.kind);
+        let fees = quote_both(tariff, &buyer, &seller)?;
+        self.outcome(fees)
+    }
 }
 
 /// What the trade comes to, or its refusal.
@@ -53,10 +41,16 @@ pub(crate) fn judged<T: Tariff>(
 ) -> Result<Outcome, Refusal>
     ensures { Judges (judge (model_of tables.now) (event_of (T.Tariff.price tariff.now) (trade_of trade))) (OutcomeOf (model_of tables.now) (trade_of trade) (T.Tariff.price tariff.now)) result }
 {
-    let family = tables.usable()?;
-    let deal = deal(family, trade)?;
+    let book = tables.in_use()?;
+    let deal = deal(book.family, trade)?;
     let parties = parties(tables, &deal)?;
-    let moves = moves(tables, &deal, &parties);
-    allowed(tables, family, &deal, &moves)?;
-    priced(tables, tariff, family, &deal, &parties, &moves)
+    let moves = deal.moves(tables, &parties);
+    let known = KnownDeal {
+        book,
+        deal,
+        parties,
+        moves,
+    };
+    known.allowed()?;
+    known.priced(tariff)
 }

@@ -1,10 +1,10 @@
-/// A trade in the numbers that offices send: the series by kind, month and strike, the size, the accounts that buy and
-/// sell, how many contracts, and the price in hundredths of a point.
+use series::SeriesNumbers;
+
+/// A trade in the numbers that offices send: the series, the size, the accounts that buy and sell, how many contracts, and
+/// the price in hundredths of a point.
 #[derive(Clone, Copy)]
 pub struct Trade {
-    pub kind: u8,
-    pub month: u16,
-    pub strike: u32,
+    pub series: SeriesNumbers,
     pub size: u8,
     pub buyer: u16,
     pub seller: u16,

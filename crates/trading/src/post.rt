@@ -10,7 +10,7 @@ use crate::found::{Leg, Outcome};
 use ledger::Account;
 use positions::Position;
 use registers::Register;
-use tables::Tables;
+use tables::{Tables, place};
 
 fn post_accounts(accounts: &mut Register<Account>, buyer: &Leg, seller: &Leg)
     requires buyer { present (rows_of accounts.old) buyer.now.side.account ≡ true }
@@ -22,19 +22,6 @@ fn post_accounts(accounts: &mut Register<Account>, buyer: &Leg, seller: &Leg)
     let _ = accounts.put(u64::from(seller.side.account), seller.account);
 }
 
-// Puts a position under its key; a flat one has no row.
-fn place(positions: &mut Register<Position>, key: u64, position: Position)
-    requires { length (placed key position (rows_of positions.old)) ≤ room_of positions.old }
-    ensures rows { rows_of positions.new ≡ placed key position (rows_of positions.old) }
-    ensures room { room_of positions.new ≡ room_of positions.old }
-{
-    if position.is_flat() {
-        let _ = positions.take(key);
-        return;
-    }
-    let _ = positions.put(key, position);
-}
-
 // Where the seller's row goes, it goes first, so that there is place for the buyer's.
 fn post_positions(positions: &mut Register<Position>, buyer: &Leg, seller: &Leg)
     requires apart { seller.now.key ≢ buyer.now.key }
@@ -43,11 +30,11 @@ fn post_positions(positions: &mut Register<Position>, buyer: &Leg, seller: &Leg)
     ensures room { room_of positions.new ≡ room_of positions.old }
 {
     if seller.position.is_flat() {
-        let _ = positions.take(seller.key);
-        place(positions, buyer.key, buyer.position);
+        positions.take(seller.key);
+        let _ = place(positions, buyer.key, buyer.position);
         return;
     }
-    place(positions, buyer.key, buyer.position);
+    let _ = place(positions, buyer.key, buyer.position);
     let _ = positions.put(seller.key, seller.position);
 }
 

@@ -1,7 +1,11 @@
 // Who and what a deal concerns: refused by 7 where one is not there, by 8 where the states do not allow it, and by 9
 // where the buyer is the seller.
 ghost use Rattle.std.specs.Prelude.{◌≡◌};
-ghost use Rattle.ledger.specs.Book.{is_trading, is_done, month_at};
+ghost use Rattle.std.specs.Option.{ok_or};
+ghost use Rattle.terms.specs.declared.refusal.Reason.TheVariants.{Absent};
+ghost use Rattle.terms.specs.Refusals.{about};
+ghost use Rattle.registers.specs.Rows.{lookup};
+ghost use Rattle.ledger.specs.Book.{month_at};
 ghost use Rattle.tables.specs.Model.{Judges, model_of};
 ghost use Rattle.trading.specs.Deals.{trade_in};
 ghost use Rattle.trading.specs.Parts.{known};
@@ -9,58 +13,44 @@ ghost use Rattle.trading.specs.Found.{parties_at};
 
 use crate::deal::Deal;
 use crate::found::Parties;
-use ledger::State;
+use ledger::{Account, State};
 use positions::{future_key, series_key};
 use tables::Tables;
-use terms::{Month, Reason, Refusal};
+use terms::{AccountNumber, Month, Reason, Refusal};
 
-fn is_trading(state: State) -> bool
-    ensures { result ≡ is_trading state }
+fn account(tables: &Tables, account: AccountNumber) -> Result<Account, Refusal>
+    ensures { result ≡ ok_or (lookup (model_of tables.now).accounts account.number) (about Absent account.number) }
 {
-    match state {
-        State::Trading => true,
-        State::Fixed(_) => false,
-        State::Done => false,
-    }
-}
-
-fn is_done(state: State) -> bool
-    ensures { result ≡ is_done state }
-{
-    match state {
-        State::Trading => false,
-        State::Fixed(_) => false,
-        State::Done => true,
-    }
+    let number = account.number();
+    tables
+        .accounts
+        .read(u64::from(number))
+        .ok_or(Refusal::about(Reason::Absent, number))
 }
 
 // The state of a month, which stands with its future.
 fn month_state(tables: &Tables, month: Month) -> State
     ensures { result ≡ month_at (model_of tables.now) month.number }
 {
-    match tables.series.read(future_key(month)) {
-        Some(future) => future.state,
-        None => State::Trading,
-    }
+    tables
+        .series
+        .read(future_key(month))
+        .map_or(State::Trading, |future| future.state)
 }
 
 /// Both accounts and the series of a deal that may be done.
+#[tactic(auto, unfolding(ledger::specs::Judge::need, crate::specs::Parts::known))]
 pub(crate) fn parties(tables: &Tables, deal: &Deal) -> Result<Parties, Refusal>
     ensures { Judges (known (model_of tables.now) (trade_in deal.now)) (λ q. q ≡ parties_at (model_of tables.now) (trade_in deal.now)) result }
 {
-    let Some(buyer) = tables.accounts.read(u64::from(deal.buyer)) else {
-        return Err(Refusal::about(Reason::Absent, deal.buyer));
-    };
-    let Some(seller) = tables.accounts.read(u64::from(deal.seller)) else {
-        return Err(Refusal::about(Reason::Absent, deal.seller));
-    };
-    let Some(terms) = tables.series.read(series_key(deal.series)) else {
-        return Err(Refusal::plain(Reason::Absent));
-    };
-    if !is_trading(month_state(tables, deal.series.month())) {
-        return Err(Refusal::plain(Reason::WrongState));
-    }
-    if is_done(terms.state) {
+    let buyer = account(tables, deal.buyer)?;
+    let seller = account(tables, deal.seller)?;
+    let terms = tables
+        .series
+        .read(series_key(deal.series))
+        .ok_or(Refusal::plain(Reason::Absent))?;
+    let month = month_state(tables, deal.series.month());
+    if !month.is_trading() || terms.state.is_done() {
         return Err(Refusal::plain(Reason::WrongState));
     }
     if deal.buyer == deal.seller {

@@ -1,4 +1,6 @@
-use Rattle.std.proofs.Common.{◌≡◌, ℕ, ◌<◌, ◌≤◌, List, length, get_or, sym, ◌∙◌, ap₂, arith}
+use Rattle.std.proofs.Common.{◌≡◌, ℕ, ◌<◌, ◌≤◌, List, length, get_or, sym, ap, ◌∙◌, ap₂, arith}
+use Rattle.std.proofs.lemmas.List.{length_push}
+use Rattle.std.proofs.lemmas.Slice.Zip.{zip_turn, zip_end}
 use Rattle.std.proofs.lemmas.Int.{ints}
 use Rattle.registers.specs.Held.{rows_of}
 use Rattle.registers.specs.Rows.{keys_in, contents_in}
@@ -11,40 +13,39 @@ use Rattle.trading.specs.Found.{weighs_on}
 use Rattle.trading.proofs.Weights.{delta_is, one_more, none_left}
 use Rattle.trading.proofs.deltas.delta_of.Goals as goal
 
-pub loop-i-preserved : goal.loop-i-preserved
-loop-i-preserved c =
-    let b = model_of c.args.tables.now in
-    let f = weighs_on b c.args.account in
-    let rs = rows_of c.args.tables.now.positions in
-    let i = c.loop-i.i in
-    let p = c.requires in
-    let w = within_room c.args.tables.now.positions in
-    let n = c.keys-keys.ensures.len in
-    let t = c.loop-i-test.true in
-    let l : i < length rs = omega arith in
-    let m = one_more f rs i flat l in
-    let v : c.weighs-sum.result ≡ f (get_or (keys_in rs) i 0) (get_or (contents_in rs) i flat) =
-    c.weighs-sum.ensures.value
-    ∙ ap₂ (λ (ks : List ℕ) (ps : List Position). f (get_or ks i 0) (get_or ps i flat)) c.keys-keys.ensures.value c.contents-positions.ensures.value in
+pub loop-key-preserved : goal.loop-key-preserved
+loop-key-preserved c =
+    let t = c.args.book.now.tables.now in
+    let f = weighs_on (model_of t) c.args.account.number in
+    let rs = rows_of t.positions in
+    let n = length c.loop-key.yielded in
+    let turn = zip_turn c.keys.result.now c.contents.result.now c.loop-key.yielded
+    c.into_iter-key-iterator.result c.loop-key.key-iterator c.next.new.self c.next.result
+    (cc) (cc) c.loop-key.yielded_by (c.in-Some.key, c.in-Some.position) c.in-Some.is c.next.ensures.steps in
+    let room = within_room t.positions in
+    let most = c.args.book.now.room in
+    let long = c.keys.ensures.len in
+    let l : n < length rs = omega (arith, turn.0) in
+    let m = one_more f rs n flat l in
+    let k : c.in-Some.key.now ≡ get_or (keys_in rs) n 0 = turn.2 0 ∙ ap (λ (ks : List ℕ). get_or ks n 0) c.keys.ensures.value in
+    let p : c.in-Some.position.now ≡ get_or (contents_in rs) n flat = turn.3 flat ∙ ap (λ (ps : List Position). get_or ps n flat) c.contents.ensures.value in
+    let v : c.weighs-sum.result ≡ f (get_or (keys_in rs) n 0) (get_or (contents_in rs) n flat) = c.weighs-sum.ensures.value ∙ ap₂ f k p in
     let bound = c.weighs-sum.ensures.bound in
-    let inv = c.loop-i.invariant in
-    (omega (arith, ints), omega (arith, ints))
+    let inv = c.loop-key.invariant in
+    let one = length_push c.loop-key.yielded (c.in-Some.key, c.in-Some.position) in
+    rw one (omega (arith, ints), omega (arith, ints))
 
-pub returns : goal.returns
-returns c =
-    let b = model_of c.args.tables.now in
-    let f = weighs_on b c.args.account in
-    let rs = rows_of c.args.tables.now.positions in
-    let p = c.requires in
-    let w = within_room c.args.tables.now.positions in
-    let n = c.keys-keys.ensures.len in
-    let t = c.loop-i-test.false in
-    let k = c.loop-i.auto.i-end in
-    let l : length rs ≤ c.loop-i.i = omega arith in
-    let z = none_left f rs c.loop-i.i l in
-    let inv = c.loop-i.invariant in
-    let s : c.loop-i.sum ≡ total_ℤ f rs = omega (arith, ints) in
-    record {
-      value = c.loop-i.sum-is ∙ s ∙ sym (delta_is b c.args.account);
-      bound = omega (arith, ints);
-    }
+pub returns-clause-value : goal.returns-clause-value
+returns-clause-value c =
+    let t = c.args.book.now.tables.now in
+    let f = weighs_on (model_of t) c.args.account.number in
+    let rs = rows_of t.positions in
+    let n = length c.loop-key.yielded in
+    let end = zip_end c.keys.result.now c.contents.result.now c.loop-key.yielded
+    c.into_iter-key-iterator.result c.loop-key.key-iterator c.next.new.self c.next.result
+    (cc) (cc) c.loop-key.yielded_by c.in-None.is c.next.ensures.steps in
+    let l : length rs ≤ n = omega (arith, end, c.keys.ensures.len, c.contents.ensures.len) in
+    let z = none_left f rs n l in
+    let inv = c.loop-key.invariant in
+    let s : c.loop-key.sum ≡ total_ℤ f rs = omega (arith, ints) in
+    c.loop-key.sum-is ∙ s ∙ sym (delta_is (model_of t) c.args.account.number)

@@ -2,17 +2,17 @@ use Rattle.std.proofs.Common.{◌^◌, ◌≤◌, nat_abs, ap, ◌∙◌, ap₂,
 use Rattle.ledger.specs.Book.{weight, delta_at}
 use Rattle.tables.specs.Model.{model_of}
 use Rattle.trading.proofs.Products.{weighed}
-use Rattle.trading.proofs.limits.traded_delta.Goals as goal
+use Rattle.trading.proofs.known.KnownDeal.delta.Goals as goal
 
 pub returns : goal.returns
 returns c =
-    let u = c.traded_units.result in
+    let u = c.units.result in
     let d = c.delta_at.result in
     let fd : SFits w32 d = search rules in
-    let hu : nat_abs u ≤ 2 ^ 34 = omega (arith, c.traded_units.ensures.bound) in
+    let hu : nat_abs u ≤ 2 ^ 34 = omega (arith, c.units.ensures.bound) in
     let w = weighed u d c.from.result c.from-2.result hu fd c.from.ensures c.from-2.ensures in
-    let e = c.delta_at.ensures ∙ ap (delta_at (model_of c.args.tables.now)) c.series_key.ensures.value in
+    let e = c.delta_at.ensures ∙ ap (delta_at (model_of c.args.self.now.book.tables.now)) c.series_key-series.ensures.value in
     record {
-      value = w.0 ∙ ap₂ weight c.traded_units.ensures.value e;
+      value = w.0 ∙ ap₂ weight c.units.ensures.value e;
       bound = rw w.0 (omega (arith, w.1));
     }

@@ -12,7 +12,7 @@ use Rattle.trading.specs.Found.{bought, sold}
 use Rattle.trading.specs.declared.found.Parties.{Parties}
 use Rattle.trading.proofs.Entry.{size_of_lem}
 use Rattle.trading.proofs.Tested.{move_is}
-use Rattle.trading.proofs.limits.moves.Goals as goal
+use Rattle.trading.proofs.deal.Deal.moves.Goals as goal
 
 -- the same kind, size and number of contracts
 changed : (h k : AccountKind) (z y : Size) (m n : ℤ) (p : Position) → h ≡ k → z ≡ y → m ≡ n → positions.dealt h z m p ≡ positions.dealt k y n p
@@ -21,14 +21,15 @@ changed h k z y m n p eh ez en = cc
 pub returns : goal.returns
 returns c =
     let b = model_of c.args.tables.now in
-    let d = c.args.deal.now in
+    let d = c.args.self.now in
     let t = trade_in d in
-    let most = d.most in
-    let n : to_z w32 d.count ≡ pos d.count = omega (arith, ints) in
-    let m : to_z w32 (of_z w32 (pos 0 -ℤ to_z w32 d.count)) ≡ neg_ℤ (pos d.count) = omega (arith, ints) in
+    let most = d.count.most in
+    let k = c.count-count.ensures.value in
+    let n : to_z w32 c.count-count.result ≡ pos d.count.count = omega (arith, ints) in
+    let m : to_z w32 (of_z w32 (pos 0 -ℤ to_z w32 c.count-count.result)) ≡ neg_ℤ (pos d.count.count) = omega (arith, ints) in
     record {
-      buyer = move_is b t d.buyer _ (bought b t) _ c.position_move.ensures
-          (changed _ _ _ _ _ _ (position_at b (key_of t.series) d.buyer) (ap (λ (q : Parties). q.buyer.kind) c.requires) (sym (size_of_lem d.size)) n);
-      seller = move_is b t d.seller _ (sold b t) _ c.position_move-2.ensures
-          (changed _ _ _ _ _ _ (position_at b (key_of t.series) d.seller) (ap (λ (q : Parties). q.seller.kind) c.requires) (sym (size_of_lem d.size)) m);
+      buyer = move_is b t d.buyer.number _ (bought b t) _ c.position_move.ensures
+          (changed _ _ _ _ _ _ (position_at b (key_of t.series) d.buyer.number) (ap (λ (q : Parties). q.buyer.kind) c.requires) (sym (size_of_lem d.size)) n);
+      seller = move_is b t d.seller.number _ (sold b t) _ c.position_move-2.ensures
+          (changed _ _ _ _ _ _ (position_at b (key_of t.series) d.seller.number) (ap (λ (q : Parties). q.seller.kind) c.requires) (sym (size_of_lem d.size)) m);
     }

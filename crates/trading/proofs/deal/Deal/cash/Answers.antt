@@ -4,16 +4,17 @@ use Rattle.std.proofs.lemmas.Bool.{cond-true, cond-false}
 use Rattle.positions.specs.Money.{amount}
 use Rattle.ledger.specs.Numbers.{is_future}
 use Rattle.ledger.specs.Post.{cash_of}
-use Rattle.trading.proofs.Entry.{kind_of_lem, not_future}
-use Rattle.trading.proofs.amounts.cash.Goals as goal
+use Rattle.tables.proofs.Doors.{kind_of_lem}
+use Rattle.trading.proofs.Entry.{not_future}
+use Rattle.trading.proofs.deal.Deal.cash.Goals as goal
 
 pub returns-in-Future : goal.returns-in-Future
 unfolding cash_of
 returns-in-Future c =
     let f = c.args.family in
-    let d = c.args.deal.now in
+    let d = c.args.self.now in
     let r = c.cents.result in
-    let n = c.traded_units-units.result in
+    let n = c.units-units.result in
     let v = c.args.value in
     let bound = c.cents.ensures.bound in
     let fn : SFits w64 n = search rules in
@@ -28,7 +29,7 @@ returns-in-Future c =
     record {
       value = er
           ∙ c.cents.ensures.value
-          ∙ ap₂ (amount f) (to_z-of_z w64 n fn ∙ c.traded_units-units.ensures.value) x
+          ∙ ap₂ (amount f) (to_z-of_z w64 n fn ∙ c.units-units.ensures.value) x
           ∙ sym (cond-true _ _ _ future);
       bound = rw er bound;
     }
@@ -37,9 +38,9 @@ pub returns-in_default : goal.returns-in_default
 unfolding cash_of
 returns-in_default c =
     let f = c.args.family in
-    let d = c.args.deal.now in
+    let d = c.args.self.now in
     let r = c.cents-in_default.result in
-    let n = c.traded_units-units.result in
+    let n = c.units-units.result in
     let bound = c.cents-in_default.ensures.bound in
     let fn : SFits w64 n = search rules in
     let hp = c.from-price.ensures in
@@ -51,7 +52,7 @@ returns-in_default c =
     let option = ap is_future (kind_of_lem d.series.kind ∙ sym c.kind.ensures) ∙ not_future c.kind.result c.in_default.not-Future in
     record {
       value = er
-          ∙ ap neg_ℤ (c.cents-in_default.ensures.value ∙ ap₂ (amount f) (to_z-of_z w64 n fn ∙ c.traded_units-units.ensures.value) x)
+          ∙ ap neg_ℤ (c.cents-in_default.ensures.value ∙ ap₂ (amount f) (to_z-of_z w64 n fn ∙ c.units-units.ensures.value) x)
           ∙ sym (cond-false _ _ _ option);
       bound = rw er small;
     }

@@ -10,8 +10,6 @@ use series::{Series, SeriesNumbers};
 use tables::{InUse, Tables, place};
 use terms::{AccountNumber, Contracts, Reason, Refusal};
 
-const FLAT: Position = Position { fulls: 0, minis: 0 };
-
 /// A position after a close, and its key.
 #[derive(Clone, Copy)]
 struct Remaining {
@@ -59,7 +57,7 @@ fn closed(
         .read(series_key(series))
         .ok_or(Refusal::plain(Reason::Absent))?;
     let key = line_key(series, account);
-    let held = book.tables.positions.read(key).unwrap_or(FLAT);
+    let held = book.tables.positions.read(key).unwrap_or_default();
     let position = held
         .closed(fulls.count())
         .ok_or(Refusal::about(Reason::CloseExceeds, account))?;

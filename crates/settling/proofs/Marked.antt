@@ -1,22 +1,16 @@
 -- A new mark by the rules.
-use Rattle.std.proofs.Common.{◌≡◌, ℕ, Bool, true, false, cond, ◌&&◌, leb, ℤ, pos, ◌+ℤ◌, ◌-ℤ◌, Some, None, Ok, Err, Option, unwrap_or, sym, refl, ap, ◌∙◌, arith}
-use Rattle.std.proofs.lemmas.Bool.{and_parts, and_from, le-leb, leb-true}
-use Rattle.terms.specs.declared.refusal.Reason.TheVariants.{OutOfRange, Absent, WrongState, AmountOutOfRange}
-use Rattle.terms.specs.Refusals.{plain}
-use Rattle.terms.specs.Ranges.{Within}
-use Rattle.registers.specs.Rows.{Rows, Rising, lookup}
+use Rattle.std.proofs.Common.{◌≡◌, ℕ, Bool, true, cond, ◌&&◌, ℤ, pos, ◌+ℤ◌, ◌-ℤ◌, None, Ok, Err, sym, ap, ◌∙◌, arith}
+use Rattle.terms.specs.declared.refusal.Reason.TheVariants.{AmountOutOfRange}
+use Rattle.registers.specs.Rows.{Rising}
 use Rattle.registers.proofs.Always.{rising}
 use Rattle.positions.specs.declared.position.Position.{Position}
 use Rattle.positions.specs.Positions.{units, in_range}
 use Rattle.positions.specs.Money.{amount, balance_in}
 use Rattle.positions.specs.Keys.{future_key}
-use Rattle.ledger.specs.declared.rows.State.{State}
-use Rattle.ledger.specs.declared.rows.State.TheVariants.{Trading, Fixed, Done}
-use Rattle.ledger.specs.declared.rows.Terms.{Terms}
 use Rattle.ledger.specs.Calls.{mark}
-use Rattle.ledger.specs.Numbers.{month_in, price_in, account_of_key}
-use Rattle.ledger.specs.Rows.{at, present, in_series, Each}
-use Rattle.ledger.specs.Book.{Book, family_in, unlisted, cash_at, value_at, position_at, is_trading, month_at}
+use Rattle.ledger.specs.Numbers.{account_of_key}
+use Rattle.ledger.specs.Rows.{in_series, Each}
+use Rattle.ledger.specs.Book.{Book, family_in, cash_at, value_at, position_at}
 use Rattle.ledger.specs.Judge.{Verdict, accepted, unless, judge_opening, judge_mark, judge_call, holder_in, overdrawn}
 use Rattle.ledger.specs.Post.{post_mark, post}
 use Rattle.ledger.specs.Runs.{judge}
@@ -26,30 +20,11 @@ use Rattle.ledger.proofs.RowLaws.{each_more}
 use Rattle.ledger.proofs.CashLaws.{cash_pay_each}
 use Rattle.tables.specs.declared.tables.Tables.{Tables}
 use Rattle.tables.specs.Model.{model_of, spaces_of, Follows}
-use Rattle.tables.proofs.Following.{refused, accepted as posted, judge_is, passes, fails}
+use Rattle.tables.proofs.Following.{refused, accepted as posted, judge_is}
 use Rattle.settling.specs.Payments.{affords, tested, Owned}
 use Rattle.settling.specs.Marks.{marking, moved}
 use Rattle.settling.proofs.Neighbours.{Line, lines}
 use Rattle.settling.proofs.Paying.{affords_there, tested_is}
-
--- ---- tests that the code makes
-pub range_in : (lo hi n : ℕ) → Within lo hi n → (leb lo n && leb n hi) ≡ true
-range_in lo hi n h = and_from _ _ (le-leb lo n h.least) (le-leb n hi h.most)
-
-pub range_out : (lo hi n : ℕ) → (Within lo hi n → ⊥) → (leb lo n && leb n hi) ≡ false
-range_out lo hi n h = ways _ refl
-  where
-    ways : (c : Bool) → (leb lo n && leb n hi) ≡ c → c ≡ false
-    ways true e = let p = and_parts (leb lo n) (leb n hi) e in absurd (h record { least = leb-true lo n p.0; most = leb-true n hi p.1 })
-    ways false e = refl
-
-pub other_state : (q : State) → (q ≡ Trading → ⊥) → is_trading q ≡ false
-other_state Trading h = absurd (h refl)
-other_state (Fixed x) h = refl
-other_state Done h = refl
-
-pub terms_found : (rs : Rows Terms) (k : ℕ) (t : Terms) → lookup rs k ≡ Some t → at unlisted rs k ≡ t
-terms_found rs k t e = ap (λ (o : Option Terms). unwrap_or o unlisted) e
 
 -- what a position gets as the mark of the future s goes to v
 abbrev pub difference : Book → ℕ → ℕ → Position → ℤ
@@ -82,35 +57,19 @@ module _ (t : Tables) (m x : ℕ) (h : judge_opening t.family (spaces_of t) ≡ 
   abbrev s : ℕ
   s = future_key m
 
-  judge_mark_lem : judge b (marking m x) ≡ judge_mark b m x (post_mark b s (pos x))
+  pub judge_mark_lem : judge b (marking m x) ≡ judge_mark b m x (post_mark b s (pos x))
   unfolding judge_call post
   judge_mark_lem = judge_is t (marking m x) h
 
-  pub no_month : month_in m ≡ false → Follows (marking m x) t t (Err (plain OutOfRange))
-  no_month e = refused (marking m x) t t _ refl (judge_mark_lem ∙ fails _ _ _ e)
+  pub follows_mark : judge_mark b m x (post_mark b s (pos x)) ≡ unless (overdrawn b s s (post_mark b s (pos x))) AmountOutOfRange (Ok tt)
+      → Sound b → Owned b → (u : Tables) (f : Position → ℤ) (r : Verdict) → f ≡ difference b s x
+      → r ≡ tested f (in_series s b.positions) b.accounts → model_of u ≡ cond (accepted r) (moved f s x b) b → Follows (marking m x) t u r
+  unfolding post
+  follows_mark e σ w u f r g a d = ways r (sym (a ∙ ap (λ (f : Position → ℤ). tested f (in_series s b.positions) b.accounts) g ∙ same_verdict b s x σ (rising t.positions) w ∙ sym (judge_mark_lem ∙ e))) d
+    where
+      done : model_of u ≡ moved f s x b → model_of u ≡ post b (mark m x) (λ _. None)
+      done y = y ∙ ap (λ (f : Position → ℤ). moved f s x b) g
 
-  pub no_price : month_in m ≡ true → price_in x ≡ false → Follows (marking m x) t t (Err (plain OutOfRange))
-  no_price p e = refused (marking m x) t t _ refl (judge_mark_lem ∙ passes _ _ _ p ∙ fails _ _ _ e)
-
-  module _ (p : month_in m ≡ true) (q : price_in x ≡ true) where
-    pub no_future : present b.series s ≡ false → Follows (marking m x) t t (Err (plain Absent))
-    no_future e = refused (marking m x) t t _ refl (judge_mark_lem ∙ passes _ _ _ p ∙ passes _ _ _ q ∙ fails _ _ _ e)
-
-    module _ (l : present b.series s ≡ true) where
-      pub no_trading : is_trading (month_at b m) ≡ false → Follows (marking m x) t t (Err (plain WrongState))
-      no_trading e = refused (marking m x) t t _ refl (judge_mark_lem ∙ passes _ _ _ p ∙ passes _ _ _ q ∙ passes _ _ _ l ∙ fails _ _ _ e)
-
-      pub follows_mark : is_trading (month_at b m) ≡ true → Sound b → Owned b → (u : Tables) (f : Position → ℤ) (r : Verdict) → f ≡ difference b s x
-          → r ≡ tested f (in_series s b.positions) b.accounts → model_of u ≡ cond (accepted r) (moved f s x b) b → Follows (marking m x) t u r
-      unfolding post
-      follows_mark e σ w u f r g a d = ways r (sym (a ∙ ap (λ (f : Position → ℤ). tested f (in_series s b.positions) b.accounts) g ∙ same_verdict b s x σ (rising t.positions) w ∙ sym chain)) d
-        where
-          chain : judge b (marking m x) ≡ unless (overdrawn b s s (post_mark b s (pos x))) AmountOutOfRange (Ok tt)
-          chain = judge_mark_lem ∙ passes _ _ _ p ∙ passes _ _ _ q ∙ passes _ _ _ l ∙ passes _ _ _ e
-
-          done : model_of u ≡ moved f s x b → model_of u ≡ post b (mark m x) (λ _. None)
-          done y = y ∙ ap (λ (f : Position → ℤ). moved f s x b) g
-
-          ways : (v : Verdict) → judge b (marking m x) ≡ v → model_of u ≡ cond (accepted v) (moved f s x b) b → Follows (marking m x) t u v
-          ways (Ok tt) j y = posted (marking m x) t u j (done y)
-          ways (Err n) j y = refused (marking m x) t u n y j
+      ways : (v : Verdict) → judge b (marking m x) ≡ v → model_of u ≡ cond (accepted v) (moved f s x b) b → Follows (marking m x) t u v
+      ways (Ok tt) j y = posted (marking m x) t u j (done y)
+      ways (Err n) j y = refused (marking m x) t u n y j

@@ -7,7 +7,7 @@ use positions::Position;
 use terms::Family;
 
 /// The farthest that a price goes at once, in hundredths of a point.
-const FARTHEST: i64 = 20_000_000;
+const FARTHEST: u64 = 20_000_000;
 
 impl Gain {
     /// The gain where a price goes from one value to another; `None` where they lie farther apart than prices can.
@@ -15,7 +15,7 @@ impl Gain {
         ensures { MatchOption result (20000000 < unsigned_abs (pos to -ℤ from)) (λ g. g.cents ≡ pos (cents_of family) *ℤ (pos to -ℤ from)) }
     {
         let hundredths = i64::from(to) - i64::from(from);
-        if hundredths < -FARTHEST || FARTHEST < hundredths {
+        if hundredths.unsigned_abs() > FARTHEST {
             return None;
         }
         let cents = i64::from(family.cents_per_hundredth()) * hundredths;

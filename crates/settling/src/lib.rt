@@ -1,5 +1,5 @@
 //! New marks of futures, and series that are settled.
-#![tactic(auto)]
+#![tactic(auto, unfolding(ledger::specs::Judge::need))]
 
 mod gain;
 mod gains;

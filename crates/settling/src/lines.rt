@@ -1,5 +1,5 @@
 // Amounts that the accounts of a series' positions get, one after the other.
-ghost use Rattle.std.specs.Prelude.{◌≡◌, true, length, Ok};
+ghost use Rattle.std.specs.Prelude.{◌≡◌, true, Ok};
 ghost use Rattle.std.specs.List.{zip};
 ghost use Rattle.terms.specs.declared.refusal.Reason.TheVariants.{AmountOutOfRange};
 ghost use Rattle.terms.specs.Refusals.{about};
@@ -11,29 +11,18 @@ ghost use Rattle.settling.specs.Payments.{affords, gains, tested, Ready, pay_all
 
 use crate::gain::Gain;
 use ledger::Account;
-use positions::{Position, paid};
+use positions::{Position, account_of_key, paid};
 use registers::Register;
 use terms::{Reason, Refusal};
-
-// The account of a position's key.
-fn account_of(key: u64) -> u16
-    ensures { result ≡ account_of_key key }
-{
-    (key % 65_536) as u16
-}
 
 // Refuses an account whose balance would leave its range.
 pub(crate) fn test_line(accounts: &Register<Account>, key: u64, amount: i64) -> Result<(), Refusal>
     ensures { result ≡ need (affords (rows_of accounts.now) (account_of_key key) amount) (about AmountOutOfRange (account_of_key key)) (Ok tt) }
 {
-    let number = account_of(key);
+    let number = account_of_key(key);
     let refusal = Refusal::about(Reason::AmountOutOfRange, number);
-    let Some(account) = accounts.read(u64::from(number)) else {
-        return Err(refusal);
-    };
-    let Some(_) = paid(account.cash, amount) else {
-        return Err(refusal);
-    };
+    let account = accounts.read(u64::from(number)).ok_or(refusal)?;
+    paid(account.cash, amount).ok_or(refusal)?;
     Ok(())
 }
 
@@ -42,7 +31,7 @@ pub(crate) fn post_line(accounts: &mut Register<Account>, key: u64, amount: i64)
     ensures rows { rows_of accounts.new ≡ pay (account_of_key key) amount (rows_of accounts.old) }
     ensures room { room_of accounts.new ≡ room_of accounts.old }
 {
-    if let Some(account) = accounts.get_mut(u64::from(account_of(key))) {
+    if let Some(account) = accounts.get_mut(u64::from(account_of_key(key))) {
         account.cash += amount;
     }
 }
@@ -54,11 +43,10 @@ pub(crate) fn test_gains(
     positions: &[Position],
     gain: Gain,
 ) -> Result<(), Refusal>
-    requires { length keys.now ≡ length positions.now }
     ensures { result ≡ tested (gains gain) (zip keys.now positions.now) (rows_of accounts.now) }
 {
-    for (i, position) in positions.iter().enumerate() {
-        test_line(accounts, keys[i], gain.of(*position))?;
+    for (key, position) in keys.iter().zip(positions) {
+        test_line(accounts, *key, gain.of(*position))?;
     }
     Ok(())
 }
@@ -70,12 +58,11 @@ pub(crate) fn post_gains(
     positions: &[Position],
     gain: Gain,
 )
-    requires even { length keys.now ≡ length positions.now }
-    requires ready { Ready (gains gain) (zip keys.now positions.now) (rows_of accounts.old) }
+    requires { Ready (gains gain) (zip keys.now positions.now) (rows_of accounts.old) }
     ensures rows { rows_of accounts.new ≡ pay_all (gains gain) (zip keys.now positions.now) (rows_of accounts.old) }
     ensures room { room_of accounts.new ≡ room_of accounts.old }
 {
-    for (i, position) in positions.iter().enumerate() {
-        post_line(accounts, keys[i], gain.of(*position));
+    for (key, position) in keys.iter().zip(positions) {
+        post_line(accounts, *key, gain.of(*position));
     }
 }

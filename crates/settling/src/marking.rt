@@ -11,9 +11,10 @@ ghost use Rattle.settling.specs.Marks.{marking, moved};
 
 use crate::gain::Gain;
 use crate::lines::{post_gains, test_gains};
-use ledger::{State, Terms};
-use positions::future_key;
-use registers::{Register, Span};
+use ledger::Terms;
+use positions::{KEYS_OF_SERIES, future_key};
+use registers::Register;
+use std::ops::Range;
 use tables::Tables;
 use terms::{Month, Price, Reason, Refusal};
 
@@ -24,17 +25,11 @@ pub fn mark(tables: &mut Tables, month: u16, price: u32) -> Result<(), Refusal>
     let family = tables.usable()?;
     let month = Month::try_from(month)?;
     let price = Price::try_from(price)?;
-    let future = future_key(month);
-    let Some(terms) = tables.series.read(future) else {
-        return Err(Refusal::plain(Reason::Absent));
-    };
-    let State::Trading = terms.state else {
-        return Err(Refusal::plain(Reason::WrongState));
-    };
-    let Some(gain) = Gain::between(family, terms.value, price.hundredths()) else {
-        return Err(Refusal::plain(Reason::AmountOutOfRange));
-    };
-    move_mark(tables, future, gain, price)
+    let future = tables.trading_future(month)?;
+    let gain = Gain::between(family, future.value, price.hundredths()).ok_or(Refusal::plain(
+        Reason::AmountOutOfRange,
+    ))?;
+    move_mark(tables, future_key(month), gain, price)
 }
 
 // Tests what each position in the future gets, then pays it and writes the mark.
@@ -44,11 +39,11 @@ fn move_mark(tables: &mut Tables, future: u64, gain: Gain, mark: Price) -> Resul
     ensures answer { result ≡ tested (gains gain) (in_series future (rows_of tables.old.positions)) (rows_of tables.old.accounts) }
     ensures book { model_of tables.new ≡ (if accepted result then moved (gains gain) future mark.hundredths (model_of tables.old) else model_of tables.old) }
 {
-    let Span { from, to } = tables
+    let Range { start, end } = tables
         .positions
-        .stretch(future * 65_536, (future + 1) * 65_536);
-    let keys = &tables.positions.keys()[from..to];
-    let positions = &tables.positions.contents()[from..to];
+        .stretch(future * KEYS_OF_SERIES, (future + 1) * KEYS_OF_SERIES);
+    let keys = &tables.positions.keys()[start..end];
+    let positions = &tables.positions.contents()[start..end];
     test_gains(&tables.accounts, keys, positions, gain)?;
     post_gains(&mut tables.accounts, keys, positions, gain);
     set_value(&mut tables.series, future, mark.hundredths() as i32);

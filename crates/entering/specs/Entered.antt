@@ -18,7 +18,7 @@ pub record FutureAt (t : Tables) (month : ℕ) (f : FutureFound) : Type 0 where
   pub there : present (model_of t).series (future_key month) ≡ true
 
 abbrev pub entering : ℕ → ClosedFixing → Event
-entering month fixing = bare (enter month (family_number fixing.family) fixing.price)
+entering month fixing = bare (enter month (family_number fixing.family) fixing.price.hundredths)
 
 -- by the rules; a refusal gives the fixing back as it was
 abbrev pub Enters : ℕ → ClosedFixing → Tables → Tables → Result (Unit {0}) (Refusal × ClosedFixing) → Type 0

@@ -55,8 +55,8 @@ pub record Closed (o : OpenFixing) (v : ℕ) (g : ClosedFixing) : Type 0 where
   pub range : PriceRange v
   pub complete : Complete o
   pub keeps_family : g.family ≡ o.family
-  pub final : g.price ≡ final_price o.family (taken o ++ v ∷ [])
-  pub is_final : IsFinal o.family (taken o ++ v ∷ []) g.price
+  pub final : g.price.hundredths ≡ final_price o.family (taken o ++ v ∷ [])
+  pub is_final : IsFinal o.family (taken o ++ v ∷ []) g.price.hundredths
 
 -- 4 for what is no price, and otherwise 8 where samples are still to come
 abbrev pub Closes : OpenFixing → ℕ → Result ClosedFixing (Refusal × OpenFixing) → Type 0
@@ -78,7 +78,7 @@ pub record FixRange (family : ℕ) (samples : List ℕ) (close : ℕ) : Type 0 w
 pub record Fixed (family : ℕ) (samples : List ℕ) (close : ℕ) (g : ClosedFixing) : Type 0 where
   pub range : FixRange family samples close
   pub has_family : family_number g.family ≡ family
-  pub final : g.price ≡ final_price g.family (samples ++ close ∷ [])
+  pub final : g.price.hundredths ≡ final_price g.family (samples ++ close ∷ [])
 
 -- A whole fixing, or 4 where something is out of range.
 abbrev pub Fixes : ℕ → List ℕ → ℕ → Result ClosedFixing Refusal → Type 0

@@ -13,5 +13,5 @@ pub fn worked_figures() -> u8
 {
     let hang_seng = final_price(Family::HangSeng, &[2_012_345, 2_013_010], 2_012_550);
     let taiwan = final_price(Family::MsciTaiwan, &[81_234], 81_235);
-    u8::from(hang_seng == 2_012_600) + u8::from(taiwan == 81_235)
+    u8::from(hang_seng.hundredths == 2_012_600) + u8::from(taiwan.hundredths == 81_235)
 }

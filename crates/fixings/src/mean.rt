@@ -2,6 +2,7 @@ ghost use Rattle.std.specs.Prelude.{◌≡◌, ℕ, ◌+◌, ◌*◌, ◌/◌, �
 ghost use Rattle.fixings.specs.Finals.{final_price, IsFinal};
 ghost use Rattle.fixings.specs.Bounds.{NoneAbove};
 
+use crate::closed::FinalPrice;
 use terms::Family;
 
 /// A whole point, in hundredths.
@@ -18,28 +19,18 @@ struct Prices {
 }
 
 /// The final price that the samples and the close make for the family.
-pub(crate) fn final_price(family: Family, samples: &[u32], close: u32) -> u32
+pub(crate) fn final_price(family: Family, samples: &[u32], close: u32) -> FinalPrice
     requires few { length samples.now ≤ 200 }
     requires prices { NoneAbove 10000000 samples.now }
     requires price { close ≤ 10000000 }
-    ensures value { result ≡ final_price family (samples.now ++ close ∷ []) }
-    ensures meaning { IsFinal family (samples.now ++ close ∷ []) result }
-    ensures most { result ≤ 10000000 }
+    ensures value { result.hundredths ≡ final_price family (samples.now ++ close ∷ []) }
+    ensures meaning { IsFinal family (samples.now ++ close ∷ []) result.hundredths }
 {
     let prices = Prices::of(samples, close);
-    let price = match family {
+    match family {
         Family::HangSeng | Family::ChinaEnterprises => prices.lowered(),
         Family::MsciTaiwan => prices.rounded(),
-    };
-    price as u32
-}
-
-// The sum of the samples.
-fn total(samples: &[u32]) -> u64
-    requires { length samples.now ≤ 200 }
-    ensures { result ≡ sum samples.now }
-{
-    samples.iter().map(|price| u64::from(*price)).sum()
+    }
 }
 
 impl Prices {
@@ -51,26 +42,30 @@ impl Prices {
         ensures total { result.sum ≡ sum (samples.now ++ close ∷ []) }
         ensures number { result.count ≡ length (samples.now ++ close ∷ []) }
     {
+        let total: u64 = samples.iter().map(|price| u64::from(*price)).sum();
         Prices {
-            sum: total(samples) + u64::from(close),
+            sum: total + u64::from(close),
             count: samples.len() as u64 + 1,
         }
     }
 
     // The mean, lowered to a whole point.
-    fn lowered(self) -> u64
-        ensures value { result ≡ self.sum / (100 * self.count) * 100 }
-        ensures most { result ≤ 10000000 }
+    fn lowered(self) -> FinalPrice
+        ensures { result.hundredths ≡ self.sum / (100 * self.count) * 100 }
     {
-        self.sum / (POINT * self.count) * POINT
+        let price = self.sum / (POINT * self.count) * POINT;
+        FinalPrice {
+            hundredths: price as u32,
+        }
     }
 
     // The mean, rounded to hundredths, a half upwards.
-    fn rounded(self) -> u64
-        ensures value { result ≡ (2 * self.sum + self.count) / (2 * self.count) }
-        ensures most { result ≤ 10000000 }
+    fn rounded(self) -> FinalPrice
+        ensures { result.hundredths ≡ (2 * self.sum + self.count) / (2 * self.count) }
     {
         let twice = 2 * self.sum + self.count;
-        twice / (2 * self.count)
+        FinalPrice {
+            hundredths: (twice / (2 * self.count)) as u32,
+        }
     }
 }

@@ -1,2 +1,3 @@
 pub mod Following
 pub mod Doors
+pub mod Products

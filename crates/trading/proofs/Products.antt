@@ -1,25 +1,12 @@
--- How large a product of integers is.
-use Rattle.std.proofs.Common.{◌≡◌, ℕ, zero, suc, ◌*◌, ◌^◌, ◌≤◌, ℤ, pos, negsuc, ◌*ℤ◌, neg_ℤ, nat_abs, refl, ap, ◌∙◌, ap₂, mul-le-mul, arith, w32, w64, SFits, to_z, of_z}
+-- The products that the code of a trade works out.
+use Rattle.std.proofs.Common.{◌≡◌, ◌*◌, ◌^◌, ◌≤◌, ℤ, pos, ◌*ℤ◌, nat_abs, ap, ◌∙◌, ap₂, arith, w32, w64, SFits, to_z, of_z}
 use mir.Syntax.{w128}
 use Rattle.std.proofs.lemmas.Int.{ints, to_z-of_z}
 use Rattle.terms.specs.declared.family.Family.{Family}
-use Rattle.terms.specs.declared.family.Family.TheVariants.{HangSeng, ChinaEnterprises, MsciTaiwan}
 use Rattle.terms.specs.Families.{cents_of}
 use Rattle.positions.specs.Money.{amount}
 use Rattle.ledger.specs.Book.{weight}
-
-abs_neg : (n : ℕ) → nat_abs (neg_ℤ (pos n)) ≡ n
-abs_neg zero = refl
-abs_neg (suc n) = refl
-
-abs_product : (a b : ℤ) → nat_abs (a *ℤ b) ≡ nat_abs a * nat_abs b
-abs_product (pos a) (pos b) = refl
-abs_product (pos a) (negsuc b) = abs_neg (a * suc b)
-abs_product (negsuc a) (pos b) = abs_neg (suc a * b)
-abs_product (negsuc a) (negsuc b) = refl
-
-pub product_below : (a b : ℤ) (m n : ℕ) → nat_abs a ≤ m → nat_abs b ≤ n → nat_abs (a *ℤ b) ≤ m * n
-product_below a b m n p q = rw abs_product (mul-le-mul p q)
+use Rattle.tables.proofs.Products.{product_below, few_cents}
 
 -- units at a delta, as the code multiplies them
 abbrev held : ℤ → ℤ
@@ -38,11 +25,6 @@ weighed u d x y hu fd ex ey =
 -- units at cents a hundredth, as the code multiplies them
 abbrev kept : ℤ → ℤ
 kept z = to_z w64 (of_z w64 z)
-
-few_cents : (f : Family) → cents_of f ≤ 20
-few_cents HangSeng = omega arith
-few_cents ChinaEnterprises = omega arith
-few_cents MsciTaiwan = omega arith
 
 pub record InCents (f : Family) (n p product : ℤ) : Type 0 where
   pub fits : SFits w64 product

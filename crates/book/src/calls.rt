@@ -17,6 +17,7 @@ use tariffs::Tariff;
 use terms::{Family, Refusal};
 use trading::Trade;
 
+// Calls take the numbers that offices send, so that any number has a stated answer.
 impl Book {
     /// An empty book for a family, over the supplied space. Any number and any space makes a book; one that may not be
     /// used refuses every call.

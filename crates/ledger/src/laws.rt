@@ -1,4 +1,4 @@
-//! The theorems, each in the contract of a function. The code does nothing: what counts is the statement.
+//! The theorems, each in the contract of a function. The code does nothing but answer 0: what counts is the statement.
 ghost use Rattle.std.specs.Prelude.{◌≡◌};
 ghost use Rattle.ledger.specs.Figures.{Figures, Refusals, Afterwards};
 ghost use Rattle.ledger.specs.Laws.{BalancedAfterEveryRun, OffsetLaws, EventLaws};

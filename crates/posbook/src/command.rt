@@ -43,6 +43,7 @@ fn read_fixing(heap: Global, mut words: Words) -> Result<Command, Unreadable>
     let second = words.next().ok_or(Unreadable::Missing(Field::Close))?;
     let mut samples = Vec::new(heap);
     let mut close = read_sample(second, words)?;
+    // `for` would take the words, and each sample asks whether one follows.
     while let Some(word) = words.next() {
         samples.push(close)?;
         close = read_sample(word, words)?;

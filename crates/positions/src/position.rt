@@ -14,7 +14,7 @@ pub struct Position {
     pub minis: i32,
 }
 
-/// Counts on the way, before they are known to be in range.
+/// Counts on the way, before they are known to be in range. A type over both widths would have no method in common.
 #[derive(Clone, Copy)]
 struct Counts {
     fulls: i64,

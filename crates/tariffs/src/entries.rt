@@ -63,6 +63,7 @@ impl Entries {
         ensures answer { result ≡ min n (left_of self.old account) }
         ensures after { self.new ≡ spent self.old account n }
     {
+        // Under `map_or` no contract would say what the closure writes.
         match self.find(account) {
             Some(i) => self.list[i].spend(n),
             None => 0,

@@ -39,7 +39,7 @@ impl Listing {
         }
     }
 
-    /// Lists a rate in cents a contract, or none, for the sides with these numbers.
+    /// Lists a rate in cents a contract, or none, for the sides with these numbers, any of which has a stated answer.
     pub fn set(
         &mut self,
         series_kind: u8,

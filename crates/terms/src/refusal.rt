@@ -1,7 +1,7 @@
 ghost use Rattle.std.specs.Prelude.{◌≡◌};
 ghost use Rattle.terms.specs.Refusals.{reason_number, reason_layer, plain, about};
 
-/// The account number of a refusal that concerns no account.
+/// The account number of a refusal that concerns no account. It is what the rules report, so it is a number and no `None`.
 pub const NO_ACCOUNT: u16 = 65_535;
 
 /// Why a call is refused. The order is that of the numbers, in which the tests are made.

@@ -8,7 +8,7 @@ pub struct StepBand {
     pub step: u32,
 }
 
-/// How far apart strikes lie: four bands, ascending; a table of fewer repeats its last.
+/// How far apart strikes lie: four bands, ascending. A table of fewer repeats its last, so that each family's is one constant.
 #[derive(Clone, Copy)]
 pub struct StepTable {
     pub bands: [StepBand; 4],

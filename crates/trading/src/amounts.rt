@@ -50,7 +50,8 @@ impl Deal {
     }
 }
 
-// The cents that a move of so many hundredths brings so many units.
+// The cents that a move of so many hundredths brings so many units. `positions::amount` takes 32 bits of hundredths, and two
+// prices may lie farther apart.
 fn cents(family: Family, units: i64, hundredths: i64) -> i64
     requires units { unsigned_abs units ≤ 500000 }
     requires hundredths { unsigned_abs hundredths ≤ 2 ^ 32 }

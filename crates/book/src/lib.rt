@@ -1,5 +1,5 @@
 //! The book: calls that follow the rules, on a book that some list of events leads to.
-#![tactic(auto)]
+#![tactic(auto, using(crate::proofs::History::onward, crate::proofs::History::entered_onward))]
 
 mod calls;
 mod reading;

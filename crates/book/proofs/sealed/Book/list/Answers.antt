@@ -1,13 +1,8 @@
 use Rattle.std.proofs.Common.{rules}
 use Rattle.ledger.specs.Calls.{list}
 use Rattle.tables.specs.Model.{bare, Follows, numbered}
-use Rattle.book.proofs.History.{onward, answers}
+use Rattle.book.proofs.History.{answers}
 use Rattle.book.proofs.sealed.Book.list.Goals as goal
-
-pub invariant_of-self : goal.invariant_of-self
-invariant_of-self c =
-    let f : Follows (bare (list (numbered c.args.numbers) c.args.first)) c.args.self.now.tables c.list.new.tables c.list.result = search rules in
-    record { reached = onward _ c.args.self.now.tables _ _ c.args.self.now.reached f }
 
 pub returns : goal.returns
 returns c =

@@ -31,6 +31,7 @@ pub enum Unreadable {
     NoMemory,
 }
 
+// A derived `From` would keep the error, which holds a number, in the variant.
 impl From<AllocFailed<u32>> for Unreadable {
     fn from(_: AllocFailed<u32>) -> Unreadable {
         Unreadable::NoMemory

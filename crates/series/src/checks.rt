@@ -39,7 +39,8 @@ fn takes_strike(kind: SeriesKind, strike: u32) -> bool
 }
 
 impl Series {
-    /// The series of these numbers in a family: refused by 4 where one is out of range or the family lacks the kind.
+    /// The series of these numbers in a family: refused by 4 where one is out of range or the family lacks the kind. The
+    /// family stands beside the numbers, so this is no `TryFrom`.
     pub fn numbered(family: Family, numbers: SeriesNumbers) -> Result<Series, Refusal>
         ensures { SeriesNumbered family numbers.kind numbers.month numbers.strike result }
     {
@@ -99,7 +100,7 @@ impl Series {
 }
 
 impl Delta {
-    /// The delta of this value for a series of this kind.
+    /// The delta of this value for a series of this kind, which stands beside the value, so this is no `TryFrom`.
     pub fn checked(kind: SeriesKind, value: i32) -> Result<Delta, Refusal>
         ensures { DeltaChecked kind value result }
     {

@@ -1,14 +1,15 @@
 -- The strikes of a stretch as a list, and how it grows by a run of equal steps.
-use Rattle.std.proofs.Common.{◌≡◌, ℕ, zero, suc, ◌+◌, ◌-◌, ◌*◌, ◌/◌, ◌%◌, ◌<◌, ◌≤◌, Bool, true, false, eqb, ltb, List, [], ◌∷◌, ◌++◌, length, get_or, filter, sym, refl, ap, ◌∙◌, subst, ⊎_elim, append_assoc, append-nil, add-zero, suc-mul, suc-add, div-add-mod', zero-add, zero-mul, arith, length-append}
+use Rattle.std.proofs.Common.{◌≡◌, ℕ, zero, suc, ◌+◌, ◌-◌, ◌*◌, ◌%◌, ◌<◌, ◌≤◌, Bool, true, false, eqb, ltb, List, [], ◌∷◌, ◌++◌, length, get_or, filter, sym, refl, ap, ◌∙◌, subst, ⊎_elim, add-zero, suc-mul, suc-add, zero-add, zero-mul, arith}
 use Rattle.std.specs.List.{range_with_len}
 use Rattle.std.proofs.lemmas.List.Elements.{filter-append}
+use Rattle.std.proofs.lemmas.List.FromFn.{map-range_with_len_more}
 use Rattle.std.proofs.lemmas.Bool.{lt-ltb, ltb-true, eq-eqb, eqb-true, and_from, and_parts, cond-true, cond-false, cond_both, both_ways, cases_lt, cases_Bool}
 use Rattle.terms.specs.declared.steps.StepBand.{StepBand}
 use Rattle.terms.specs.Steps.{step_in, Listed}
 use Rattle.terms.proofs.Grid as grid
 use Rattle.strikelists.specs.Strikes.{Holds, Between}
 use Rattle.strikelists.specs.Grids.{Grid}
-use Rattle.strikelists.specs.Runs.{listed, stretch, rungs, EvenRun}
+use Rattle.strikelists.specs.Runs.{listed, stretch, behind, rungs}
 
 listed_true : (bands : List StepBand) (k : ℕ) → Listed bands k → listed bands k ≡ true
 listed_true bands k l = and_from (ltb 0 k) (eqb (k % step_in bands k) 0) (lt-ltb 0 k l.some) (eq-eqb (k % step_in bands k) 0 l.whole)
@@ -95,94 +96,55 @@ kept_last p (suc n) a none y =
 not_listed : (bands : List StepBand) (k : ℕ) → (Listed bands k → ⊥) → listed bands k ≡ false
 not_listed bands k none = ⊎_elim (λ t. absurd (none (true_listed bands k t))) (λ f. f) (cases_Bool (listed bands k))
 
-pub one : (bands : List StepBand) (k : ℕ) → Listed bands k → stretch bands k k ≡ k ∷ []
-one bands k l =
-    let e : suc k - k ≡ 1 = omega arith in
-    ap (λ n. filter (listed bands) (range_with_len k n)) e ∙ cond-true (listed bands k) (k ∷ []) [] (listed_true bands k l)
-
--- what lies between two ends of a stretch
-split : (bands : List StepBand) (low k m : ℕ) → low ≤ k → k ≤ m
-    → stretch bands low m ≡ stretch bands low k ++ filter (listed bands) (range_with_len (suc k) (m - k))
-split bands low k m lo hi =
-    let e : suc m - low ≡ (suc k - low) + (m - k) = omega arith in
-    let a : low + (suc k - low) ≡ suc k = omega arith in
+-- a stretch is its first strike and those behind it
+pub first_behind : (bands : List StepBand) (low high : ℕ) → Listed bands low → low ≤ high → stretch bands low high ≡ low ∷ behind bands low high
+first_behind bands low high l le =
+    let e : suc high - low ≡ suc (high - low) = omega arith in
     ap (λ n. filter (listed bands) (range_with_len low n)) e
-    ∙ ap (filter (listed bands)) (counting_split low (suc k - low) (m - k))
-    ∙ filter-append (listed bands) (range_with_len low (suc k - low)) (range_with_len (low + (suc k - low)) (m - k))
-    ∙ ap (λ n. stretch bands low k ++ filter (listed bands) (range_with_len n (m - k))) a
+    ∙ cond-true (listed bands low) (low ∷ behind bands low high) (behind bands low high) (listed_true bands low l)
 
-pub longer : (bands : List StepBand) (low k m : ℕ) → low ≤ k → k ≤ m → length (stretch bands low k) ≤ length (stretch bands low m)
-longer bands low k m lo hi = omega (arith, simp length-append at (ap length (split bands low k m lo hi)))
+-- what lies behind a strike, up to a point and from there on
+pub split : (bands : List StepBand) (low k high : ℕ) → low ≤ k → k ≤ high → behind bands low high ≡ behind bands low k ++ behind bands k high
+split bands low k high lo hi =
+    let e : high - low ≡ (k - low) + (high - k) = omega arith in
+    let a : (low + 1) + (k - low) ≡ k + 1 = omega arith in
+    ap (λ n. filter (listed bands) (range_with_len (low + 1) n)) e
+    ∙ ap (filter (listed bands)) (counting_split (low + 1) (k - low) (high - k))
+    ∙ filter-append (listed bands) (range_with_len (low + 1) (k - low)) (range_with_len ((low + 1) + (k - low)) (high - k))
+    ∙ ap (λ n. behind bands low k ++ filter (listed bands) (range_with_len n (high - k))) a
 
--- one step up from a strike
-next : (bands : List StepBand) (low k : ℕ) → Grid bands → Listed bands k → low ≤ k
-    → stretch bands low (k + step_in bands k) ≡ stretch bands low k ++ (k + step_in bands k) ∷ []
-next bands low k g l lo = by (step_in bands k) (grid.rises bands g.join k)
-    ((grid.unbroken bands g.join).next k l)
-    (λ x lx hx m. omega (arith, (grid.unbroken bands g.join).none_between k x l m lx))
-  where
-    by : (s : ℕ) → 0 < s → Listed bands (k + s) → ((x : ℕ) → k < x → x < k + s → Listed bands x → ⊥)
-        → stretch bands low (k + s) ≡ stretch bands low k ++ (k + s) ∷ []
-    by zero p y none = absurd (omega arith)
-    by (suc s) p y none =
-        let b : k + suc s ≡ suc k + s = omega arith in
-        let n : (k + suc s) - k ≡ suc s = omega arith in
-        split bands low k (k + suc s) lo (omega arith)
-        ∙ ap (λ n. stretch bands low k ++ filter (listed bands) (range_with_len (suc k) n)) n
-        ∙ ap (λ xs. stretch bands low k ++ xs)
-        (kept_last (listed bands) s (suc k)
-        (λ x lx hx. not_listed bands x (none x (omega arith) (omega arith)))
-        (subst (λ (x : ℕ). listed bands x ≡ true) b (listed_true bands (k + suc s) y))
-        ∙ ap (λ x. x ∷ []) (sym b))
+-- the next strike is the only one of the step up to it
+alone : (bands : List StepBand) (k s : ℕ) → 0 < s → Listed bands (k + s) → ((m : ℕ) → Listed bands m → k < m → k + s ≤ m) → behind bands k (k + s) ≡ (k + s) ∷ []
+alone bands k zero p on none = absurd (omega arith)
+alone bands k (suc s) p on none =
+    let e : (k + suc s) - k ≡ suc s = omega arith in
+    let at : (k + 1) + s ≡ k + suc s = omega arith in
+    ap (λ n. filter (listed bands) (range_with_len (k + 1) n)) e
+    ∙ kept_last (listed bands) s (k + 1) (λ x lo hi. not_listed bands x (λ l. omega (arith, none x l (omega arith))))
+    (subst (λ (x : ℕ). listed bands x ≡ true) (sym at) (listed_true bands (k + suc s) on))
+    ∙ ap (λ x. x ∷ []) at
 
 -- n steps up from a strike, over which one step holds
-pub climb : (bands : List StepBand) (n low k s : ℕ) → Grid bands → Listed bands k → low ≤ k → 0 < s
-    → ((x : ℕ) → k ≤ x → x < k + n * s → step_in bands x ≡ s)
-    → stretch bands low (k + n * s) ≡ stretch bands low k ++ rungs k s n
-climb bands zero low k s g l lo p even =
+pub climb : (bands : List StepBand) (n k s : ℕ) → Grid bands → Listed bands k → ((x : ℕ) → k ≤ x → x < k + n * s → step_in bands x ≡ s) → 0 < s
+    → Listed bands (k + n * s) × (behind bands k (k + n * s) ≡ rungs k s n)
+climb bands zero k s g l even p =
     let e : k + zero * s ≡ k = omega (arith, zero-mul s) in
-    ap (stretch bands low) e ∙ sym (append-nil (stretch bands low k))
-climb bands (suc n) low k s g l lo p even =
+    let z : k - k ≡ 0 = omega arith in
+    (rw e l, rw e (rw z refl))
+climb bands (suc n) k s g l even p =
     let m = suc-mul n s in
-    let q : step_in bands k ≡ s = even k (omega arith) (omega (arith, m)) in
-    let up : Listed bands (k + s) = subst (λ (t : ℕ). Listed bands (k + t)) q ((grid.unbroken bands g.join).next k l) in
-    let e : k + suc n * s ≡ (k + s) + n * s = omega (arith, m) in
-    let first : stretch bands low (k + s) ≡ stretch bands low k ++ (k + s) ∷ [] =
-    subst (λ (t : ℕ). stretch bands low (k + t) ≡ stretch bands low k ++ (k + t) ∷ []) q (next bands low k g l lo) in
-    ap (stretch bands low) e
-    ∙ climb bands n low (k + s) s g up (omega arith) p (λ x lx hx. even x (omega arith) (omega (arith, m)))
-    ∙ ap (λ xs. xs ++ rungs (k + s) s n) first
-    ∙ append_assoc (stretch bands low k) ((k + s) ∷ []) (rungs (k + s) s n)
-
-pub length-rungs : (n k s : ℕ) → length (rungs k s n) ≡ n
-length-rungs zero k s = refl
-length-rungs (suc n) k s = ap suc (length-rungs n (k + s) s)
-
--- a run from the strike k adds as many strikes as steps fit in
-pub record Grown (bands : List StepBand) (low k s end : ℕ) : Type 0 where
-  pub list : stretch bands low end ≡ stretch bands low k ++ rungs k s ((end - k) / s)
-  pub count : length (stretch bands low end) ≡ length (stretch bands low k) + (end - k) / s
-  pub reach : k + ((end - k) / s) * s ≡ end
-
-pub grown : (bands : List StepBand) (low k high s end : ℕ) → Grid bands → Listed bands k → low ≤ k → EvenRun bands k high s end → Grown bands low k s end
-grown bands low k high s end g l lo r =
-    let n = (end - k) / s in
-    let e : k + n * s ≡ end = omega (arith, div-add-mod' (end - k) s, r.whole, r.below) in
-    let list : stretch bands low end ≡ stretch bands low k ++ rungs k s n =
-    subst (λ (m : ℕ). stretch bands low m ≡ stretch bands low k ++ rungs k s n) e
-    (climb bands n low k s g l lo r.positive (λ x lx hx. r.even x lx (omega arith))) in
-    record {
-      list = list;
-      count = ap length list ∙ length-append (stretch bands low k) (rungs k s n) ∙ ap (λ m. length (stretch bands low k) + m) (length-rungs n k s);
-      reach = e;
-    }
-
--- one rung more
-pub rungs_more : (n k s : ℕ) → rungs k s (n + 1) ≡ rungs k s n ++ (k + (n + 1) * s) ∷ []
-rungs_more zero k s = ap (λ x. x ∷ []) (omega (arith, suc-mul 0 s, zero-mul s))
-rungs_more (suc n) k s =
-    let e : suc n + 1 ≡ suc (n + 1) = omega arith in
-    let v : (k + s) + (n + 1) * s ≡ k + (suc n + 1) * s = omega (arith, suc-mul (n + 1) s, ap (λ m. m * s) e) in
-    ap (rungs k s) e
-    ∙ ap (λ xs. (k + s) ∷ xs) (rungs_more n (k + s) s)
-    ∙ ap (λ x. ((k + s) ∷ rungs (k + s) s n) ++ x ∷ []) v
+    let up = climb bands n k s g l (λ x lo hi. even x lo (omega (arith, m))) p in
+    let at = k + n * s in
+    let holds : step_in bands at ≡ s = even at (omega arith) (omega (arith, m)) in
+    let law = grid.unbroken bands g.join in
+    let on : Listed bands (at + s) = subst (λ (t : ℕ). Listed bands (at + t)) holds (law.next at up.0) in
+    let one = alone bands at s p on (λ x lx lt. omega (arith, law.none_between at x up.0 lx lt, holds)) in
+    let e : k + suc n * s ≡ at + s = omega (arith, m) in
+    let n1 : suc n ≡ n + 1 = omega arith in (
+      rw e on,
+      ap (behind bands k) e ∙ split bands k at (at + s) (omega arith) (omega arith)
+          ∙ ap (λ xs. xs ++ behind bands at (at + s)) up.1
+          ∙ ap (λ xs. rungs k s n ++ xs) (one ∙ ap (λ x. x ∷ []) (sym e))
+          ∙ sym (map-range_with_len_more (λ i. k + suc i * s) 0 n n (omega arith))
+          ∙ ap (rungs k s) (sym n1),
+    )

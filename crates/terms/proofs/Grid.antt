@@ -1,7 +1,7 @@
 -- The law of strikes, for any list of bands that passes the computed test.
-use Rattle.std.proofs.Common.{◌≡◌, ℕ, zero, suc, ◌+◌, ◌-◌, ◌*◌, ◌/◌, ◌%◌, ◌<◌, ◌≤◌, true, cond, ◌&&◌, eqb, ltb, leb, List, [], ◌∷◌, length, get_or, fold, sym, refl, ap, ◌∙◌, subst, ⊎_elim, mul-le-mul_right, mod-lt, suc-mul, lt_of_mul-lt-mul_right, div-add-mod', arith}
+use Rattle.std.proofs.Common.{◌≡◌, ℕ, zero, suc, ◌+◌, ◌-◌, ◌*◌, ◌/◌, ◌%◌, ◌<◌, ◌≤◌, true, cond, ◌&&◌, eqb, ltb, leb, List, [], ◌∷◌, length, get_or, fold, find, Option, Some, None, sym, refl, ap, ◌∙◌, subst, ⊎_elim, mul-le-mul_right, mod-lt, suc-mul, lt_of_mul-lt-mul_right, div-add-mod', arith}
 use native.Mathlib.Nat.{mul-mod_left, add-mod_right}
-use Rattle.std.proofs.lemmas.Bool.{le-leb, lt-leb, ltb-true, leb-true, eqb-true, and_parts, cases_lt}
+use Rattle.std.proofs.lemmas.Bool.{le-leb, lt-leb, lt-ltb, le-ltb, ltb-true, leb-true, eqb-true, and_parts, cases_lt}
 use Rattle.terms.specs.declared.steps.StepBand.{StepBand}
 use Rattle.terms.specs.Steps.{step_in, joins, joined, Unbroken}
 
@@ -132,28 +132,35 @@ piece (b ∷ bs) a s k t h =
     })
     (cases_lt k b.from)
 
--- no band begins below the first
-rising : (bs : List StepBand) (a s j : ℕ) (d : StepBand) → joins a s bs ≡ true → j < length bs → a ≤ (get_or bs j d).from
-rising [] a s j d t h = absurd (omega arith)
-rising (b ∷ bs) a s zero d t h = (joint a s b bs t).up
-rising (b ∷ bs) a s (suc j) d t h =
-    let i = joint a s b bs t in
-    omega (arith, i.up, rising bs b.from b.step j d i.rest (omega arith))
+-- Up to the first band that begins above k one step holds, and that band begins at a multiple of this step and of its own.
+abbrev pub Turn : (ℕ → ℕ) → ℕ → Option StepBand → Type 0
+Turn g k None = (x : ℕ) → k ≤ x → g x ≡ g k
+Turn g k (Some b) = (k < b.from) × (b.from % g k ≡ 0) × (b.from % g b.from ≡ 0) × ((x : ℕ) → k ≤ x → x < b.from → g x ≡ g k)
 
-start : (bs : List StepBand) (a s j : ℕ) (d : StepBand) → joins a s bs ≡ true → j < length bs
-    → (get_or bs j d).from % after s bs (get_or bs j d).from ≡ 0
-start [] a s j d t h = absurd (omega arith)
-start (b ∷ bs) a s zero d t h =
-    let i = joint a s b bs t in
-    let n = piece bs b.from b.step b.from i.rest (omega arith) in
+turn_past : (g h : ℕ → ℕ) (k : ℕ) (o : Option StepBand) → ((x : ℕ) → k ≤ x → h x ≡ g x) → Turn g k o → Turn h k o
+turn_past g h k None e t = λ x lo. e x lo ∙ t x lo ∙ sym (e k (omega arith))
+turn_past g h k (Some b) e t =
+    let here = e k (omega arith) in
+    let there = e b.from (omega (arith, t.0)) in
+    (t.0, rw here t.1, rw there t.2, λ x lo hi. e x lo ∙ t.3 x lo hi ∙ sym here)
+
+turn : (bs : List StepBand) (a s k : ℕ) → joins a s bs ≡ true → a ≤ k → Turn (after s bs) k (find (λ b. ltb k b.from) bs)
+turn [] a s k t h = λ x lo. refl
+turn (b ∷ bs) a s k t h =
+    let j = joint a s b bs t in
+    ⊎_elim
+    (λ lt.
+    let e : after s (b ∷ bs) k ≡ s = before b bs a s k j lt in
+    let n = piece bs b.from b.step b.from j.rest (omega arith) in
     let at : n.lo ≡ b.from = omega (arith, n.from, n.low) in
-    let on = subst (λ (y : ℕ). y % after b.step bs b.from ≡ 0) at n.lo_on in
-    subst (λ (y : ℕ). b.from % y ≡ 0) (sym (past b bs s b.from (omega arith))) on
-start (b ∷ bs) a s (suc j) d t h =
-    let i = joint a s b bs t in
-    let k = (get_or bs j d).from in
-    let up = rising bs b.from b.step j d i.rest (omega arith) in
-    subst (λ (y : ℕ). k % y ≡ 0) (sym (past b bs s k up)) (start bs b.from b.step j d i.rest (omega arith))
+    let on : b.from % after b.step bs b.from ≡ 0 = subst (λ (y : ℕ). y % after b.step bs b.from ≡ 0) at n.lo_on in
+    let own : b.from % after s (b ∷ bs) b.from ≡ 0 = subst (λ (y : ℕ). b.from % y ≡ 0) (sym (past b bs s b.from (omega arith))) on in
+    let found = lt-ltb k b.from lt in
+    simp found (lt, subst (λ (y : ℕ). b.from % y ≡ 0) (sym e) j.meets, own, λ x lo hi. before b bs a s x j hi ∙ sym e))
+    (λ le.
+    let not_yet = le-ltb k b.from le in
+    simp not_yet (turn_past (after b.step bs) (after s (b ∷ bs)) k (find (λ b. ltb k b.from) bs) (λ x lo. past b bs s x (omega arith)) (turn bs b.from b.step k j.rest le)))
+    (cases_lt k b.from)
 
 pub pieces : (bands : List StepBand) → joined bands ≡ true → (k : ℕ) → Piece (step_in bands) 0 k
 pieces bands t k = piece bands 0 1 k t (omega arith)
@@ -223,9 +230,8 @@ module _ (bands : List StepBand) (t : joined bands ≡ true) where
   pub ceil_least : (x m : ℕ) → On m → x - x % step_in bands x < m → (x - x % step_in bands x) + step_in bands x ≤ m
   ceil_least x m onm lt = omega (arith, floor_step x, next_least (x - x % step_in bands x) m (floor_on x) onm lt)
 
--- each band begins at a multiple of the step that holds there
-pub starts_on : (bands : List StepBand) (t : joined bands ≡ true) (j : ℕ) (d : StepBand) → j < length bands → On bands t (get_or bands j d).from
-starts_on bands t j d h = start bands 0 1 j d t h
+pub turns : (bands : List StepBand) → joined bands ≡ true → (k : ℕ) → Turn (step_in bands) k (find (λ b. ltb k b.from) bands)
+turns bands t k = turn bands 0 1 k t (omega arith)
 
 pub unbroken : (bands : List StepBand) → joined bands ≡ true → Unbroken bands
 unbroken bands t = record {

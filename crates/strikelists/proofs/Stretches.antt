@@ -1,5 +1,5 @@
 -- The strikes of a stretch as a list, and how it grows by a run of equal steps.
-use Rattle.std.proofs.Common.{◌≡◌, ℕ, zero, suc, ◌+◌, ◌-◌, ◌*◌, ◌%◌, ◌<◌, ◌≤◌, Bool, true, false, eqb, ltb, List, [], ◌∷◌, ◌++◌, length, get_or, filter, sym, refl, ap, ◌∙◌, subst, ⊎_elim, add-zero, suc-mul, suc-add, zero-add, zero-mul, arith}
+use Rattle.std.proofs.Common.{◌≡◌, ℕ, zero, suc, ◌+◌, ◌-◌, ◌*◌, ◌<◌, ◌≤◌, Bool, true, false, List, [], ◌∷◌, ◌++◌, length, filter, refl, ap, subst, ⊎_elim, add-zero, suc-mul, suc-add, zero-add, zero-mul, arith}
 use Rattle.std.specs.List.{range_with_len}
 use Rattle.std.proofs.lemmas.List.Elements.{filter-append}
 use Rattle.std.proofs.lemmas.List.Elements.{All-get_or, All-filter, All-from_get_or, filter_passes}
@@ -7,11 +7,11 @@ use Rattle.std.proofs.lemmas.List.Kept.{AllPairs-filter}
 use Rattle.std.proofs.lemmas.List.FromFn.{map-range_with_len_more, get_or-range_with_len, length-range_with_len}
 use Rattle.std.proofs.lemmas.Bool.Decides.{nat_tests}
 use Rattle.std.proofs.lemmas.Grind.{common_steps}
-use Rattle.std.proofs.lemmas.Bool.{lt-ltb, ltb-true, eq-eqb, eqb-true, and_from, and_parts, cond-true, cond-false, cond_both, both_ways, cases_lt, cases_Bool}
+use Rattle.std.proofs.lemmas.Bool.{cond-true, cases_Bool}
 use Rattle.terms.specs.declared.steps.StepBand.{StepBand}
 use Rattle.terms.specs.Steps.{step_in, Listed}
 use Rattle.terms.proofs.Grid as grid
-use Rattle.strikelists.specs.Strikes.{Holds, Between}
+use Rattle.strikelists.specs.Strikes.{Between}
 use Rattle.strikelists.specs.Grids.{Grid}
 use Rattle.strikelists.specs.Runs.{listed, stretch, behind, rungs}
 

@@ -8,29 +8,13 @@ use Rattle.strikelists.specs.Runs.{stretch}
 use Rattle.strikelists.proofs.Stretches.{stretch_words}
 
 pub one_nearest : OneNearest
-one_nearest bands level a b n m =
-    let p = n.closest b m.listed in
-    let q = m.closest a n.listed in
-    ⊎_elim
-    (λ lt. ⊎_elim (λ gt. absurd (omega arith)) (λ e. absurd (omega arith)) q)
-    (λ e. ⊎_elim (λ gt. absurd (omega arith)) (λ d. omega arith) q)
-    p
+one_nearest bands level a b n m = grind (arith, n.closest b m.listed, m.closest a n.listed)
 
 one_low : (bands : List StepBand) (a l m : ℕ) → LowEnd bands a l → LowEnd bands a m → l ≡ m
-one_low bands a l m p q =
-    ⊎_elim
-    (λ g. ⊎_elim
-    (λ h. let x = g.1 m h.0 in let y = h.1 l g.0 in omega arith)
-    (λ h. let x = h.0 l g.0.0 in absurd (omega (arith, g.0.1)))
-    q)
-    (λ g. ⊎_elim
-    (λ h. let x = g.0 m h.0.0 in absurd (omega (arith, h.0.1)))
-    (λ h. let x = g.1.1 m h.1.0 in let y = h.1.1 l g.1.0 in omega arith)
-    q)
-    p
+one_low bands a l m p q = grind arith
 
 one_high : (bands : List StepBand) (a l m : ℕ) → HighEnd bands a l → HighEnd bands a m → l ≡ m
-one_high bands a l m p q = let x = p.1 m q.0 in let y = q.1 l p.0 in omega arith
+one_high bands a l m p q = grind arith
 
 abbrev Ascends : List ℕ → Type 0
 Ascends xs = (i j : ℕ) → i < j → j < length xs → get_or xs i 0 < get_or xs j 0
@@ -81,14 +65,7 @@ one_list bands level xs ys p q =
 
 -- the ends stand in their order
 pub ends_ordered : (bands : List StepBand) (a low high : ℕ) → Listed bands a → LowEnd bands a low → HighEnd bands a high → low ≤ high
-ends_ordered bands a low high l p q =
-    ⊎_elim
-    (λ g. omega (arith, g.0.1, q.0.1))
-    (λ g. omega (arith, g.1.1 a l, q.0.1))
-    p
-
-pub low_listed : (bands : List StepBand) (a low : ℕ) → LowEnd bands a low → Listed bands low
-low_listed bands a low p = ⊎_elim (λ g. g.0.0) (λ g. g.1.0) p
+ends_ordered bands a low high l p q = grind (arith, l)
 
 -- the stretch between the ends is the list of the words
 pub stretch_list : (bands : List StepBand) (level a low high : ℕ) → Nearest bands level a → LowEnd bands a low → HighEnd bands a high

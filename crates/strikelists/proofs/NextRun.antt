@@ -32,7 +32,9 @@ way a b s le p ea eb =
 -- up to the next band, or to a strike before it, one step holds, and it divides the way
 reach : (bands : List StepBand) (low high : ℕ) (o : Option StepBand) → Ends bands low high → low < high → Turn (step_in bands) low o
     → Reach bands low high (min (unwrap_or (option_map (λ b. b.from) o) high) high)
-reach bands low high None e lt t = let m : min high high ≡ high = omega arith in rw m (record { below = lt; within = omega arith; stands = e.to; on = rw (← t high (omega arith)) e.to.whole; even = λ x lo hi. t x lo })
+reach bands low high None e lt t =
+    let m : min high high ≡ high = omega arith in
+    rw m (record { below = lt; within = omega arith; stands = e.to; on = rw (← t high (omega arith)) e.to.whole; even = λ x lo hi. t x lo })
 reach bands low high (Some b) e lt t =
     ⊎_elim
     (λ less.
@@ -44,10 +46,9 @@ reach bands low high (Some b) e lt t =
     rw m (record { below = t.0; within = le; stands = record { some = omega (arith, t.0); whole = t.2 }; on = t.1; even = t.3 }))
     (cases_lt high b.from)
 
-pub next_run : (bands : List StepBand) (low high s end : ℕ) → Ends bands low high → low < high → s ≡ step_in bands low → end ≡ run_end bands low high → NextRun bands low high s end
-next_run bands low high s end e lt step at =
-    let found : Reach bands low high end = subst (λ (x : ℕ). Reach bands low high x) (sym at)
-    (reach bands low high (find (λ b. ltb low b.from) bands) e lt (grid.turns bands e.grid.join low)) in
+pub next_run : {bands : List StepBand} {low high s end : ℕ} → Ends bands low high → low < high → s ≡ step_in bands low → end ≡ run_end bands low high → NextRun bands low high s end
+next_run {bands} {low} {high} {s} {end} e lt step at =
+    let found : Reach bands low high end = rw at (reach bands low high (find (λ b. ltb low b.from) bands) e lt (grid.turns bands e.grid.join low)) in
     let rises : 0 < s = omega (arith, step, grid.rises bands e.grid.join low) in
     let on : end % s ≡ 0 = rw step found.on in
     let start : low % s ≡ 0 = rw step e.from.whole in
@@ -55,9 +56,9 @@ next_run bands low high s end e lt step at =
     let n = (end - low) / s in
     let m : low + n * s ≡ end = omega (arith, div-add-mod' (end - low) s, whole, found.below) in
     let up = climb bands n low s e.grid e.from (λ x lo hi. found.even x lo (omega arith) ∙ sym step) rises in
-    let list : behind bands low end ≡ rungs low s n = subst (λ (x : ℕ). behind bands low x ≡ rungs low s n) m up.1 in
+    let list = rw m at up.1 in
     record {
-      even = record { positive = rises; order = found.below; most = omega (arith, found.within, e.most); whole = whole };
+      even = record { positive = rises; order = found.below; whole = whole };
       rest = record { grid = e.grid; from = found.stands; to = e.to; order = found.within; most = e.most };
       list = split bands low end high (omega (arith, found.below)) found.within ∙ ap (λ xs. xs ++ behind bands end high) list;
     }

@@ -15,5 +15,4 @@ pub record Ends (bands : List StepBand) (low high : ℕ) : Type 0 where
 pub record EvenRun (from step end : ℕ) : Type 0 where
   pub positive : 0 < step
   pub order : from < end
-  pub most : end ≤ 200000
   pub whole : (end - from) % step ≡ 0

@@ -3,7 +3,7 @@ use Rattle.strikelists.proofs.NextRun.{next_run}
 use Rattle.strikelists.proofs.runs.RunsIterator.next.Goals as goal
 
 pub invariant_of-self : goal.invariant_of-self
-invariant_of-self c = record { ends = (next_run _ c.args.self.now.left.low c.args.self.now.left.high c.step_at.result c.run_end.result c.args.self.now.left.ends (omega arith) c.step_at.ensures c.run_end.ensures).rest }
+invariant_of-self c = record { ends = (next_run c.args.self.now.left.ends (omega arith) c.step_at.ensures c.run_end.ensures).rest }
 
 pub invariant_of-run : goal.invariant_of-run
-invariant_of-run c = record { even = (next_run _ c.args.self.now.left.low c.args.self.now.left.high c.step_at.result c.run_end.result c.args.self.now.left.ends (omega arith) c.step_at.ensures c.run_end.ensures).even }
+invariant_of-run c = record { even = (next_run c.args.self.now.left.ends (omega arith) c.step_at.ensures c.run_end.ensures).even }

@@ -1,5 +1,6 @@
+pub mod Counts
+pub mod Filled
 pub mod Neighbours
-pub mod Scans
+pub mod NextRun
 pub mod Stretches
-pub mod Walks
 pub mod Words

@@ -1,188 +1,103 @@
 -- The strikes of a stretch as a list, and how it grows by a run of equal steps.
-use Rattle.std.proofs.Common.{◌≡◌, ℕ, zero, suc, ◌+◌, ◌-◌, ◌*◌, ◌/◌, ◌%◌, ◌<◌, ◌≤◌, Bool, true, false, eqb, ltb, List, [], ◌∷◌, ◌++◌, length, get_or, filter, sym, refl, ap, ◌∙◌, subst, ⊎_elim, append_assoc, append-nil, add-zero, suc-mul, suc-add, div-add-mod', zero-add, zero-mul, arith, length-append}
+use Rattle.std.proofs.Common.{◌≡◌, ℕ, zero, suc, ◌+◌, ◌-◌, ◌*◌, ◌<◌, ◌≤◌, Bool, true, false, List, [], ◌∷◌, ◌++◌, length, filter, refl, ap, subst, ⊎_elim, add-zero, suc-mul, suc-add, zero-add, zero-mul, arith}
 use Rattle.std.specs.List.{range_with_len}
 use Rattle.std.proofs.lemmas.List.Elements.{filter-append}
-use Rattle.std.proofs.lemmas.Bool.{lt-ltb, ltb-true, eq-eqb, eqb-true, and_from, and_parts, cond-true, cond-false, cond_both, both_ways, cases_lt, cases_Bool}
+use Rattle.std.proofs.lemmas.List.Elements.{All-get_or, All-filter, All-from_get_or, filter_passes}
+use Rattle.std.proofs.lemmas.List.Kept.{AllPairs-filter}
+use Rattle.std.proofs.lemmas.List.FromFn.{map-range_with_len_more, get_or-range_with_len, length-range_with_len}
+use Rattle.std.proofs.lemmas.Bool.Decides.{nat_tests}
+use Rattle.std.proofs.lemmas.Grind.{common_steps}
+use Rattle.std.proofs.lemmas.Bool.{cond-true, cases_Bool}
 use Rattle.terms.specs.declared.steps.StepBand.{StepBand}
 use Rattle.terms.specs.Steps.{step_in, Listed}
 use Rattle.terms.proofs.Grid as grid
-use Rattle.strikelists.specs.Strikes.{Holds, Between}
+use Rattle.strikelists.specs.Strikes.{Between}
 use Rattle.strikelists.specs.Grids.{Grid}
-use Rattle.strikelists.specs.Runs.{listed, stretch, rungs, EvenRun}
+use Rattle.strikelists.specs.Runs.{listed, stretch, behind, rungs}
 
 listed_true : (bands : List StepBand) (k : ℕ) → Listed bands k → listed bands k ≡ true
-listed_true bands k l = and_from (ltb 0 k) (eqb (k % step_in bands k) 0) (lt-ltb 0 k l.some) (eq-eqb (k % step_in bands k) 0 l.whole)
+listed_true bands k l = let some = l.some in let whole = l.whole in grind (arith, nat_tests)
 
 true_listed : (bands : List StepBand) (k : ℕ) → listed bands k ≡ true → Listed bands k
-true_listed bands k t =
-    let p = and_parts (ltb 0 k) (eqb (k % step_in bands k) 0) t in
-    record { some = ltb-true 0 k p.0; whole = eqb-true (k % step_in bands k) 0 p.1 }
+true_listed bands k t = record { some = grind (arith, nat_tests, t); whole = grind (arith, nat_tests, t) }
+
+not_listed : (bands : List StepBand) (k : ℕ) → (Listed bands k → ⊥) → listed bands k ≡ false
+not_listed bands k none = ⊎_elim (λ t. absurd (none (true_listed bands k t))) (λ f. f) (cases_Bool (listed bands k))
 
 counting_split : (a m n : ℕ) → range_with_len a (m + n) ≡ range_with_len a m ++ range_with_len (a + m) n
-counting_split a zero n = ap (λ k. range_with_len a k) (zero-add n) ∙ sym (ap (λ k. range_with_len k n) (add-zero a))
+counting_split a zero n = rw (zero-add n, add-zero a) refl
 counting_split a (suc m) n =
-    ap (λ k. range_with_len a k) (suc-add m n)
-    ∙ ap (λ xs. a ∷ xs) (counting_split (a + 1) m n ∙ ap (λ k. range_with_len (a + 1) m ++ range_with_len k n) (omega arith))
+    let f : a + suc m ≡ (a + 1) + m = omega arith in
+    rw (suc-add m n, f) (ap (λ xs. a ∷ xs) (counting_split (a + 1) m n))
 
--- a filter of ascending numbers, in words
-record Kept (p : ℕ → Bool) (a n : ℕ) (xs : List ℕ) : Type 0 where
-  ascends : (i j : ℕ) → i < j → j < length xs → get_or xs i 0 < get_or xs j 0
-  only : (k : ℕ) → Holds xs k → (p k ≡ true) × (a ≤ k) × (k < a + n)
-  every : (k : ℕ) → p k ≡ true → a ≤ k → k < a + n → Holds xs k
-
-kept_first : (p : ℕ → Bool) (n a : ℕ) (xs : List ℕ) → p a ≡ true → Kept p (a + 1) n xs → Kept p a (suc n) (a ∷ xs)
-kept_first p n a xs e behind = record {
-  ascends = up;
-  only = in_range_lem;
-  every = λ k t lo hi. ⊎_elim
-      (λ lt. let h = behind.every k t (omega arith) (omega arith) in (suc h.0, omega (arith, h.1), h.2))
-      (λ le. (0, omega arith, omega arith))
-      (cases_lt a k);
-}
-  where
-    up : (i j : ℕ) → i < j → j < length (a ∷ xs) → get_or (a ∷ xs) i 0 < get_or (a ∷ xs) j 0
-    up i zero lt l = absurd (omega arith)
-    up zero (suc j) lt l = let o = behind.only (get_or xs j 0) (j, omega arith, refl) in omega (arith, o.1)
-    up (suc i) (suc j) lt l = behind.ascends i j (omega arith) (omega arith)
-
-    in_range_lem : (k : ℕ) → Holds (a ∷ xs) k → (p k ≡ true) × (a ≤ k) × (k < a + suc n)
-    in_range_lem k (zero, l, q) = (subst (λ (x : ℕ). p x ≡ true) q e, omega arith, omega arith)
-    in_range_lem k (suc i, l, q) = let o = behind.only k (i, omega arith, q) in (o.0, omega (arith, o.1), omega (arith, o.2))
-
-kept_rest : (p : ℕ → Bool) (n a : ℕ) (xs : List ℕ) → p a ≡ false → Kept p (a + 1) n xs → Kept p a (suc n) xs
-kept_rest p n a xs e behind = record {
-  ascends = behind.ascends;
-  only = λ k h. let o = behind.only k h in (o.0, omega (arith, o.1), omega (arith, o.2));
-  every = λ k t lo hi. ⊎_elim
-      (λ lt. behind.every k t (omega arith) (omega arith))
-      (λ le. let q : a ≡ k = omega arith in absurd (both_ways (p k) (subst (λ (x : ℕ). p x ≡ false) q e) t))
-      (cases_lt a k);
-}
-
-kept : (p : ℕ → Bool) (n a : ℕ) → Kept p a n (filter p (range_with_len a n))
-kept p zero a = record {
-  ascends = λ i j lt l. absurd (omega arith);
-  only = λ k h. absurd (omega (arith, h.1));
-  every = λ k t lo hi. absurd (omega arith);
-}
-kept p (suc n) a = cond_both (p a) (a ∷ filter p (range_with_len (a + 1) n)) (filter p (range_with_len (a + 1) n)) (Kept p a (suc n))
-    (λ e. kept_first p n a (filter p (range_with_len (a + 1) n)) e (kept p n (a + 1)))
-    (λ e. kept_rest p n a (filter p (range_with_len (a + 1) n)) e (kept p n (a + 1)))
+-- a filter of ascending numbers falls apart at a number that passes
+parted : (p : ℕ → Bool) (a m n k : ℕ) → a + m ≡ k → p k ≡ true
+    → filter p (range_with_len a (m + suc n)) ≡ filter p (range_with_len a m) ++ k ∷ filter p (range_with_len (k + 1) n)
+parted p a m n k e t = grind (arith, common_steps, counting_split a m (suc n), filter-append p (range_with_len a m) (range_with_len (a + m) (suc n)))
 
 -- the stretch holds every strike from low to high and nothing else, ascending
 pub stretch_words : (bands : List StepBand) (low high : ℕ) → low ≤ high → Between bands low high (stretch bands low high)
 stretch_words bands low high le =
-    let k = kept (listed bands) (suc high - low) low in
+    let n = suc high - low in
+    let all = range_with_len low n in
     record {
-      ascends = k.ascends;
-      only = λ m h. let o = k.only m h in (true_listed bands m o.0, o.1, omega (arith, o.2));
-      every = λ m l lo hi. k.every m (listed_true bands m l) lo (omega arith);
+      ascends = λ i j lt l. AllPairs-filter (λ x y. x < y) (listed bands) all
+          (λ i j d lt l. omega (arith, get_or-range_with_len low n i d, get_or-range_with_len low n j d, length-range_with_len low n)) i j 0 lt l;
+      only = λ k h.
+          let passes = All-get_or (λ x. listed bands x ≡ true) (stretch bands low high) h.0 0 h.1 (filter_passes (listed bands) all) in
+          let within = All-get_or (λ x. (low ≤ x) × (x ≤ high)) (stretch bands low high) h.0 0 h.1 (All-filter (listed bands) (λ x. (low ≤ x) × (x ≤ high)) all
+          (All-from_get_or (λ x. (low ≤ x) × (x ≤ high)) all 0 (λ i l. grind (arith, get_or-range_with_len low n i 0, length-range_with_len low n)))) in
+          (true_listed bands k (subst (λ (x : ℕ). listed bands x ≡ true) h.2 passes), omega arith, omega arith);
+      every = λ k l lo hi.
+          let front = filter (listed bands) (range_with_len low (k - low)) in
+          let e : n ≡ (k - low) + suc (high - k) = omega arith in
+          let apart = parted (listed bands) low (k - low) (high - k) k (omega arith) (listed_true bands k l) in
+          let at : stretch bands low high ≡ front ++ k ∷ filter (listed bands) (range_with_len (k + 1) (high - k)) = rw e apart in
+          (length front, rw at (grind (arith, common_steps)), rw at (grind (arith, common_steps)));
     }
 
 -- a run in which only the last number passes
 kept_last : (p : ℕ → Bool) (n a : ℕ) → ((x : ℕ) → a ≤ x → x < a + n → p x ≡ false) → p (a + n) ≡ true
     → filter p (range_with_len a (suc n)) ≡ (a + n) ∷ []
-kept_last p zero a none y =
-    let y' : p a ≡ true = subst (λ (x : ℕ). p x ≡ true) (add-zero a) y in
-    cond-true (p a) (a ∷ []) [] y' ∙ ap (λ x. x ∷ []) (sym (add-zero a))
-kept_last p (suc n) a none y =
-    let m : a + suc n ≡ (a + 1) + n = omega arith in
-    let y' : p ((a + 1) + n) ≡ true = subst (λ (x : ℕ). p x ≡ true) m y in
-    cond-false (p a) (a ∷ filter p (range_with_len (a + 1) (suc n))) (filter p (range_with_len (a + 1) (suc n))) (none a (omega arith) (omega arith))
-    ∙ kept_last p n (a + 1) (λ x lo hi. none x (omega arith) (omega arith)) y'
-    ∙ ap (λ x. x ∷ []) (sym m)
+kept_last p zero a none y = grind (arith, common_steps)
+kept_last p (suc n) a none y = grind (arith, common_steps, none a, kept_last p n (a + 1))
 
-not_listed : (bands : List StepBand) (k : ℕ) → (Listed bands k → ⊥) → listed bands k ≡ false
-not_listed bands k none = ⊎_elim (λ t. absurd (none (true_listed bands k t))) (λ f. f) (cases_Bool (listed bands k))
+-- a stretch is its first strike and those behind it
+pub first_behind : (bands : List StepBand) (low high : ℕ) → Listed bands low → low ≤ high → stretch bands low high ≡ low ∷ behind bands low high
+first_behind bands low high l le =
+    let e : suc high - low ≡ suc (high - low) = omega arith in
+    rw e (cond-true (listed bands low) (low ∷ behind bands low high) (behind bands low high) (listed_true bands low l))
 
-pub one : (bands : List StepBand) (k : ℕ) → Listed bands k → stretch bands k k ≡ k ∷ []
-one bands k l =
-    let e : suc k - k ≡ 1 = omega arith in
-    ap (λ n. filter (listed bands) (range_with_len k n)) e ∙ cond-true (listed bands k) (k ∷ []) [] (listed_true bands k l)
+-- what lies behind a strike, up to a point and from there on
+pub split : (bands : List StepBand) (low k high : ℕ) → low ≤ k → k ≤ high → behind bands low high ≡ behind bands low k ++ behind bands k high
+split bands low k high lo hi =
+    let e : high - low ≡ (k - low) + (high - k) = omega arith in
+    let a : (low + 1) + (k - low) ≡ k + 1 = omega arith in
+    rw (e, counting_split (low + 1) (k - low) (high - k), a) (filter-append (listed bands) (range_with_len (low + 1) (k - low)) (range_with_len (k + 1) (high - k)))
 
--- what lies between two ends of a stretch
-split : (bands : List StepBand) (low k m : ℕ) → low ≤ k → k ≤ m
-    → stretch bands low m ≡ stretch bands low k ++ filter (listed bands) (range_with_len (suc k) (m - k))
-split bands low k m lo hi =
-    let e : suc m - low ≡ (suc k - low) + (m - k) = omega arith in
-    let a : low + (suc k - low) ≡ suc k = omega arith in
-    ap (λ n. filter (listed bands) (range_with_len low n)) e
-    ∙ ap (filter (listed bands)) (counting_split low (suc k - low) (m - k))
-    ∙ filter-append (listed bands) (range_with_len low (suc k - low)) (range_with_len (low + (suc k - low)) (m - k))
-    ∙ ap (λ n. stretch bands low k ++ filter (listed bands) (range_with_len n (m - k))) a
-
-pub longer : (bands : List StepBand) (low k m : ℕ) → low ≤ k → k ≤ m → length (stretch bands low k) ≤ length (stretch bands low m)
-longer bands low k m lo hi = omega (arith, simp length-append at (ap length (split bands low k m lo hi)))
-
--- one step up from a strike
-next : (bands : List StepBand) (low k : ℕ) → Grid bands → Listed bands k → low ≤ k
-    → stretch bands low (k + step_in bands k) ≡ stretch bands low k ++ (k + step_in bands k) ∷ []
-next bands low k g l lo = by (step_in bands k) (grid.rises bands g.join k)
-    ((grid.unbroken bands g.join).next k l)
-    (λ x lx hx m. omega (arith, (grid.unbroken bands g.join).none_between k x l m lx))
-  where
-    by : (s : ℕ) → 0 < s → Listed bands (k + s) → ((x : ℕ) → k < x → x < k + s → Listed bands x → ⊥)
-        → stretch bands low (k + s) ≡ stretch bands low k ++ (k + s) ∷ []
-    by zero p y none = absurd (omega arith)
-    by (suc s) p y none =
-        let b : k + suc s ≡ suc k + s = omega arith in
-        let n : (k + suc s) - k ≡ suc s = omega arith in
-        split bands low k (k + suc s) lo (omega arith)
-        ∙ ap (λ n. stretch bands low k ++ filter (listed bands) (range_with_len (suc k) n)) n
-        ∙ ap (λ xs. stretch bands low k ++ xs)
-        (kept_last (listed bands) s (suc k)
-        (λ x lx hx. not_listed bands x (none x (omega arith) (omega arith)))
-        (subst (λ (x : ℕ). listed bands x ≡ true) b (listed_true bands (k + suc s) y))
-        ∙ ap (λ x. x ∷ []) (sym b))
+-- the next strike is the only one of the step up to it
+alone : (bands : List StepBand) (k s : ℕ) → 0 < s → Listed bands (k + s) → ((m : ℕ) → Listed bands m → k < m → k + s ≤ m) → behind bands k (k + s) ≡ (k + s) ∷ []
+alone bands k zero p on none = absurd (omega arith)
+alone bands k (suc s) p on none =
+    let e : (k + suc s) - k ≡ suc s = omega arith in
+    let at : (k + 1) + s ≡ k + suc s = omega arith in
+    rw e (rw (← at) (kept_last (listed bands) s (k + 1) (λ x lo hi. not_listed bands x (λ l. omega (arith, none x l (omega arith)))) (rw at (listed_true bands (k + suc s) on))))
 
 -- n steps up from a strike, over which one step holds
-pub climb : (bands : List StepBand) (n low k s : ℕ) → Grid bands → Listed bands k → low ≤ k → 0 < s
-    → ((x : ℕ) → k ≤ x → x < k + n * s → step_in bands x ≡ s)
-    → stretch bands low (k + n * s) ≡ stretch bands low k ++ rungs k s n
-climb bands zero low k s g l lo p even =
+pub climb : (bands : List StepBand) (n k s : ℕ) → Grid bands → Listed bands k → ((x : ℕ) → k ≤ x → x < k + n * s → step_in bands x ≡ s) → 0 < s
+    → Listed bands (k + n * s) × (behind bands k (k + n * s) ≡ rungs k s n)
+climb bands zero k s g l even p =
     let e : k + zero * s ≡ k = omega (arith, zero-mul s) in
-    ap (stretch bands low) e ∙ sym (append-nil (stretch bands low k))
-climb bands (suc n) low k s g l lo p even =
+    let z : k - k ≡ 0 = omega arith in
+    (rw e l, rw (e, z) refl)
+climb bands (suc n) k s g l even p =
     let m = suc-mul n s in
-    let q : step_in bands k ≡ s = even k (omega arith) (omega (arith, m)) in
-    let up : Listed bands (k + s) = subst (λ (t : ℕ). Listed bands (k + t)) q ((grid.unbroken bands g.join).next k l) in
-    let e : k + suc n * s ≡ (k + s) + n * s = omega (arith, m) in
-    let first : stretch bands low (k + s) ≡ stretch bands low k ++ (k + s) ∷ [] =
-    subst (λ (t : ℕ). stretch bands low (k + t) ≡ stretch bands low k ++ (k + t) ∷ []) q (next bands low k g l lo) in
-    ap (stretch bands low) e
-    ∙ climb bands n low (k + s) s g up (omega arith) p (λ x lx hx. even x (omega arith) (omega (arith, m)))
-    ∙ ap (λ xs. xs ++ rungs (k + s) s n) first
-    ∙ append_assoc (stretch bands low k) ((k + s) ∷ []) (rungs (k + s) s n)
-
-pub length-rungs : (n k s : ℕ) → length (rungs k s n) ≡ n
-length-rungs zero k s = refl
-length-rungs (suc n) k s = ap suc (length-rungs n (k + s) s)
-
--- a run from the strike k adds as many strikes as steps fit in
-pub record Grown (bands : List StepBand) (low k s end : ℕ) : Type 0 where
-  pub list : stretch bands low end ≡ stretch bands low k ++ rungs k s ((end - k) / s)
-  pub count : length (stretch bands low end) ≡ length (stretch bands low k) + (end - k) / s
-  pub reach : k + ((end - k) / s) * s ≡ end
-
-pub grown : (bands : List StepBand) (low k high s end : ℕ) → Grid bands → Listed bands k → low ≤ k → EvenRun bands k high s end → Grown bands low k s end
-grown bands low k high s end g l lo r =
-    let n = (end - k) / s in
-    let e : k + n * s ≡ end = omega (arith, div-add-mod' (end - k) s, r.whole, r.below) in
-    let list : stretch bands low end ≡ stretch bands low k ++ rungs k s n =
-    subst (λ (m : ℕ). stretch bands low m ≡ stretch bands low k ++ rungs k s n) e
-    (climb bands n low k s g l lo r.positive (λ x lx hx. r.even x lx (omega arith))) in
-    record {
-      list = list;
-      count = ap length list ∙ length-append (stretch bands low k) (rungs k s n) ∙ ap (λ m. length (stretch bands low k) + m) (length-rungs n k s);
-      reach = e;
-    }
-
--- one rung more
-pub rungs_more : (n k s : ℕ) → rungs k s (n + 1) ≡ rungs k s n ++ (k + (n + 1) * s) ∷ []
-rungs_more zero k s = ap (λ x. x ∷ []) (omega (arith, suc-mul 0 s, zero-mul s))
-rungs_more (suc n) k s =
-    let e : suc n + 1 ≡ suc (n + 1) = omega arith in
-    let v : (k + s) + (n + 1) * s ≡ k + (suc n + 1) * s = omega (arith, suc-mul (n + 1) s, ap (λ m. m * s) e) in
-    ap (rungs k s) e
-    ∙ ap (λ xs. (k + s) ∷ xs) (rungs_more n (k + s) s)
-    ∙ ap (λ x. ((k + s) ∷ rungs (k + s) s n) ++ x ∷ []) v
+    let at = k + n * s in
+    let e : k + suc n * s ≡ at + s = omega (arith, m) in
+    let law = grid.unbroken bands g.join in
+    let up = climb bands n k s g l (λ x lo hi. even x lo (omega (arith, m))) p in
+    let holds : step_in bands at ≡ s = even at (omega arith) (omega (arith, m)) in
+    let on : Listed bands (at + s) = rw holds at (law.next at up.0) in
+    let one = alone bands at s p on (λ x lx lt. omega (arith, law.none_between at x up.0 lx lt, holds)) in
+    let more = map-range_with_len_more (λ i. k + suc i * s) 0 n n (omega arith) in
+    (rw e on, grind (arith, e, one, up.1, more, split bands k at (at + s)))

@@ -8,29 +8,13 @@ use Rattle.strikelists.specs.Runs.{stretch}
 use Rattle.strikelists.proofs.Stretches.{stretch_words}
 
 pub one_nearest : OneNearest
-one_nearest bands level a b n m =
-    let p = n.closest b m.listed in
-    let q = m.closest a n.listed in
-    ⊎_elim
-    (λ lt. ⊎_elim (λ gt. absurd (omega arith)) (λ e. absurd (omega arith)) q)
-    (λ e. ⊎_elim (λ gt. absurd (omega arith)) (λ d. omega arith) q)
-    p
+one_nearest bands level a b n m = grind (arith, n.closest b m.listed, m.closest a n.listed)
 
 one_low : (bands : List StepBand) (a l m : ℕ) → LowEnd bands a l → LowEnd bands a m → l ≡ m
-one_low bands a l m p q =
-    ⊎_elim
-    (λ g. ⊎_elim
-    (λ h. let x = g.1 m h.0 in let y = h.1 l g.0 in omega arith)
-    (λ h. let x = h.0 l g.0.0 in absurd (omega (arith, g.0.1)))
-    q)
-    (λ g. ⊎_elim
-    (λ h. let x = g.0 m h.0.0 in absurd (omega (arith, h.0.1)))
-    (λ h. let x = g.1.1 m h.1.0 in let y = h.1.1 l g.1.0 in omega arith)
-    q)
-    p
+one_low bands a l m p q = grind arith
 
 one_high : (bands : List StepBand) (a l m : ℕ) → HighEnd bands a l → HighEnd bands a m → l ≡ m
-one_high bands a l m p q = let x = p.1 m q.0 in let y = q.1 l p.0 in omega arith
+one_high bands a l m p q = grind arith
 
 abbrev Ascends : List ℕ → Type 0
 Ascends xs = (i j : ℕ) → i < j → j < length xs → get_or xs i 0 < get_or xs j 0
@@ -41,6 +25,9 @@ ascends_rest x xs a i j lt l = a (suc i) (suc j) (omega arith) (omega arith)
 -- an element behind the first is greater
 above_first : (x : ℕ) (xs : List ℕ) → Ascends (x ∷ xs) → (k : ℕ) → Holds xs k → x < k
 above_first x xs a k h = let lt = a 0 (suc h.0) (omega arith) (omega (arith, h.1)) in omega (arith, h.2)
+
+holds_rest : (x : ℕ) (xs : List ℕ) (k : ℕ) → Holds xs k → Holds (x ∷ xs) k
+holds_rest x xs k h = (suc h.0, omega (arith, h.1), h.2)
 
 first_or_rest : (x k : ℕ) (xs : List ℕ) → Holds (x ∷ xs) k → (x ≡ k) ⊎ Holds xs k
 first_or_rest x k xs (zero, l, e) = inl e
@@ -55,14 +42,10 @@ same_ascending (x ∷ xs) [] a b to from = let h = to x (0, omega arith, refl) i
 same_ascending (x ∷ xs) (y ∷ ys) a b to from =
     let p = first_or_rest y x ys (to x (0, omega arith, refl)) in
     let q = first_or_rest x y xs (from y (0, omega arith, refl)) in
-    let e : x ≡ y =
-    ⊎_elim (λ e. sym e)
-    (λ h. let lt = above_first y ys b x h in
-    ⊎_elim (λ e. e) (λ g. let gt = above_first x xs a y g in absurd (omega arith)) q)
-    p in
-    let rest : xs ≡ ys = same_ascending xs ys (ascends_rest x xs a) (ascends_rest y ys b)
-    (λ k h. let lt = above_first x xs a k h in ⊎_elim (λ d. absurd (omega arith)) (λ g. g) (first_or_rest y k ys (to k (suc h.0, omega (arith, h.1), h.2))))
-    (λ k h. let lt = above_first y ys b k h in ⊎_elim (λ d. absurd (omega arith)) (λ g. g) (first_or_rest x k xs (from k (suc h.0, omega (arith, h.1), h.2)))) in
+    let e : x ≡ y = grind (arith, p, q, above_first y ys b x, above_first x xs a y) in
+    let rest = same_ascending xs ys (ascends_rest x xs a) (ascends_rest y ys b)
+    (λ k h. grind (arith, first_or_rest y k ys (to k (holds_rest x xs k h)), above_first x xs a k h))
+    (λ k h. grind (arith, first_or_rest x k xs (from k (holds_rest y ys k h)), above_first y ys b k h)) in
     cc
 
 one_between : (bands : List StepBand) (low high : ℕ) (xs ys : List ℕ) → Between bands low high xs → Between bands low high ys → xs ≡ ys
@@ -74,21 +57,9 @@ one_between bands low high xs ys p q =
 pub one_list : OneList
 one_list bands level xs ys p q =
     let a = one_nearest bands level p.middle q.middle p.nearest q.nearest in
-    let l = one_low bands q.middle p.low q.low (subst (λ (m : ℕ). LowEnd bands m p.low) a p.low_end) q.low_end in
-    let h = one_high bands q.middle p.high q.high (subst (λ (m : ℕ). HighEnd bands m p.high) a p.high_end) q.high_end in
-    let b = subst (λ (m : ℕ). Between bands m p.high xs) l p.all in
-    one_between bands q.low q.high xs ys (subst (λ (m : ℕ). Between bands q.low m xs) h b) q.all
-
--- the ends stand in their order
-pub ends_ordered : (bands : List StepBand) (a low high : ℕ) → Listed bands a → LowEnd bands a low → HighEnd bands a high → low ≤ high
-ends_ordered bands a low high l p q =
-    ⊎_elim
-    (λ g. omega (arith, g.0.1, q.0.1))
-    (λ g. omega (arith, g.1.1 a l, q.0.1))
-    p
-
-pub low_listed : (bands : List StepBand) (a low : ℕ) → LowEnd bands a low → Listed bands low
-low_listed bands a low p = ⊎_elim (λ g. g.0.0) (λ g. g.1.0) p
+    let l = one_low bands q.middle p.low q.low (rw a at p.low_end) q.low_end in
+    let h = one_high bands q.middle p.high q.high (rw a at p.high_end) q.high_end in
+    one_between bands q.low q.high xs ys (rw (l, h) at p.all) q.all
 
 -- the stretch between the ends is the list of the words
 pub stretch_list : (bands : List StepBand) (level a low high : ℕ) → Nearest bands level a → LowEnd bands a low → HighEnd bands a high
@@ -100,5 +71,5 @@ stretch_list bands level a low high n p q = record {
   nearest = n;
   low_end = p;
   high_end = q;
-  all = stretch_words bands low high (ends_ordered bands a low high n.listed p q);
+  all = stretch_words bands low high (grind (arith, n.listed));
 }

@@ -1,5 +1,6 @@
 pub mod Strikes
 pub mod Grids
+pub mod Spans
 pub mod Runs
 pub mod Lists
 pub mod Asks

@@ -1,9 +1,11 @@
 -- The strikes of a stretch as one list, and runs of strikes that lie one step apart: what the code is held to inside.
-use Rattle.std.specs.Prelude.{◌≡◌, ℕ, zero, suc, ◌+◌, ◌-◌, ◌%◌, ◌<◌, ◌≤◌, Bool, ◌&&◌, List, [], ◌∷◌, filter, ◌==◌, nat_lt}
+use Rattle.std.specs.Prelude.{◌≡◌, ℕ, suc, ◌+◌, ◌-◌, ◌*◌, ◌/◌, ◌%◌, Bool, ◌&&◌, List, map, filter, ◌==◌, nat_lt, find, min, [], ◌++◌, Option, MatchOption}
 use Rattle.std.specs.List.{range_with_len}
+use Rattle.std.specs.Option.{option_map, unwrap_or}
 use Rattle.terms.specs.declared.steps.StepBand.{StepBand}
-use Rattle.terms.specs.Steps.{step_in, Listed}
-use Rattle.strikelists.specs.Grids.{Grid}
+use Rattle.terms.specs.Steps.{step_in}
+use Rattle.strikelists.specs.declared.span.Run.{Run}
+use Rattle.strikelists.specs.declared.span.Span.{Span}
 
 abbrev pub listed : List StepBand → ℕ → Bool
 listed bands k = nat_lt 0 k && k % step_in bands k == 0
@@ -12,24 +14,27 @@ listed bands k = nat_lt 0 k && k % step_in bands k == 0
 abbrev pub stretch : List StepBand → ℕ → ℕ → List ℕ
 stretch bands low high = filter (listed bands) (range_with_len low (suc high - low))
 
+-- the same without low
+abbrev pub behind : List StepBand → ℕ → ℕ → List ℕ
+behind bands low high = filter (listed bands) (range_with_len (low + 1) (high - low))
+
+abbrev pub above : Span → List ℕ
+above span = behind span.grid.steps.bands span.low span.high
+
 -- n numbers above k, a step apart
 abbrev pub rungs : ℕ → ℕ → ℕ → List ℕ
-rungs k step zero = []
-rungs k step (suc n) = (k + step) ∷ rungs (k + step) step n
+rungs k step n = map (λ i. k + suc i * step) (range_with_len 0 n)
 
--- Two strikes that a list can go between.
-pub record Span (bands : List StepBand) (low high : ℕ) : Type 0 where
-  pub grid : Grid bands
-  pub from : Listed bands low
-  pub to : Listed bands high
-  pub order : low ≤ high
-  pub most : high ≤ 200000
+abbrev pub rungs_in : Run → ℕ
+rungs_in run = (run.end - run.from) / run.step
 
--- From the strike `at` up to the strike `end`, which is not past `high`, one step holds, and it divides the way.
-pub record EvenRun (bands : List StepBand) (at high step end : ℕ) : Type 0 where
-  pub positive : 0 < step
-  pub below : at < end
-  pub within : end ≤ high
-  pub stands : Listed bands end
-  pub even : (x : ℕ) → at ≤ x → x < end → step_in bands x ≡ step
-  pub whole : (end - at) % step ≡ 0
+abbrev pub rungs_of : Run → List ℕ
+rungs_of run = rungs run.from run.step (rungs_in run)
+
+-- where the first band above a strike begins, or `high` where none begins before it
+abbrev pub run_end : List StepBand → ℕ → ℕ → ℕ
+run_end bands strike high = min (unwrap_or (option_map (λ b. b.from) (find (λ b. nat_lt strike b.from) bands)) high) high
+
+-- the first run of those left, or none where no strike is left
+abbrev pub TakesRun : Span → Option Run → Span → Type 0
+TakesRun old run new = MatchOption run (above old ≡ []) (λ r. above old ≡ rungs_of r ++ above new)

@@ -18,6 +18,7 @@ use span::Span;
 use terms::{Family, Price, Reason, Refusal};
 
 /// The strike nearest to a closing level (in hundredths), the lower of two that are as near.
+#[tactic(auto, using(crate::proofs::Words::one_nearest))]
 pub fn nearest_strike(family: u8, level: u32) -> Result<u32, Refusal>
     ensures answer { NearestAnswer family level result }
     ensures one { OneNearest }

@@ -1,63 +1,77 @@
-ghost use Rattle.std.specs.Prelude.{◌≡◌, ℕ, ◌+◌, ◌*◌, ◌<◌, ◌≤◌, ◌++◌, length, drop};
-ghost use Rattle.terms.specs.Steps.{Listed};
-ghost use Rattle.strikelists.specs.Grids.{Grid};
-ghost use Rattle.strikelists.specs.Runs.{EvenRun, stretch, rungs};
+ghost use Rattle.std.specs.Prelude.{◌≡◌, ◌-◌, ◌≤◌, ◌++◌, length, drop};
+ghost use Rattle.std.specs.Iterator.{at_most};
+ghost use Rattle.strikelists.specs.Runs.{rungs_in, stretch, rungs_of, run_end, TakesRun};
 
-use crate::span::Span;
+use crate::span::{Run, Span};
 use terms::StepBand;
 
-// From a strike up to the strike `end`, strikes lie `step` apart.
-#[derive(Clone, Copy)]
-struct Run {
-    step: u32,
-    end: u32,
-}
+impl Run {
+    // How many strikes lie above the first.
+    fn rungs(&self) -> usize
+        ensures { result ≡ rungs_in self.now }
+    {
+        ((self.end - self.from) / self.step) as usize
+    }
 
-// The longest such run from the strike `at`, not past the strike `high`.
-fn run_from(bands: &[StepBand], at: u32, high: u32) -> Run
-    requires grid { Grid bands.now }
-    requires low { Listed bands.now at }
-    requires high { Listed bands.now high }
-    requires order { at < high }
-    ensures { EvenRun bands.now at high result.step result.end }
-{
-    let mut step = 1;
-    let mut end = high;
-    for band in bands {
-        if band.from <= at {
-            step = band.step;
-        } else if band.from < end {
-            end = band.from;
+    // Writes the strikes above the first.
+    fn write(&self, part: &mut [u32])
+        requires { length part.old ≡ rungs_in self.now }
+        ensures { part.new ≡ rungs_of self.now }
+    {
+        let mut strike = self.from;
+        for place in part.iter_mut() {
+            strike += self.step;
+            *place = strike;
         }
     }
-    Run { step, end }
 }
 
-// Writes the strikes above `from`, a step apart.
-fn write_rungs(from: u32, step: u32, part: &mut [u32])
-    requires { from + length part.old * step < 4294967296 }
-    ensures { part.new ≡ rungs from step (length part.old) }
-{
-    let mut strike = from;
-    for place in part.iter_mut() {
-        strike += step;
-        *place = strike;
+// The longest runs from the lower to the upper strike of a span, ascending.
+#[derive(Drop)]
+struct Runs {
+    left: Span,
+}
+
+impl Iterator for Runs {
+    type Item = Run;
+
+    ghost remaining = { λ runs. at_most (runs.left.high - runs.left.low) };
+
+    ghost next_gives = { λ old run new. TakesRun old.left run new.left };
+
+    #[tactic(auto, using(crate::proofs::NextRun::next_run))]
+    fn next(&mut self) -> Option<Run> {
+        let Span { grid, low, high } = self.left;
+        if low == high {
+            return None;
+        }
+        let run = Run {
+            from: low,
+            step: grid.steps.step_at(low),
+            end: run_end(&grid.steps.bands, low, high),
+        };
+        self.left.low = run.end;
+        Some(run)
     }
+}
+
+// Where the first band above `strike` begins, but not past `high`.
+fn run_end(bands: &[StepBand], strike: u32, high: u32) -> u32
+    ensures { result ≡ run_end bands.now strike high }
+{
+    bands
+        .iter()
+        .find(|band| strike < band.from)
+        .map_or(high, |band| band.from)
+        .min(high)
 }
 
 impl Span {
-    /// How many strikes there are: the steps that fit into each run.
+    /// How many strikes there are.
     pub(crate) fn count(&self) -> usize
         ensures { result ≡ length (stretch self.now.grid.steps.bands self.now.low self.now.high) }
     {
-        let mut at = self.low;
-        let mut count = 1;
-        while at < self.high {
-            let run = run_from(&self.grid.steps.bands, at, self.high);
-            count += ((run.end - at) / run.step) as usize;
-            at = run.end;
-        }
-        count
+        1 + self.runs().map(|run| run.rungs()).sum::<usize>()
     }
 
     /// Writes the strikes to the front of `out`.
@@ -66,14 +80,17 @@ impl Span {
         ensures { out.new ≡ stretch self.now.grid.steps.bands self.now.low self.now.high ++ drop (length (stretch self.now.grid.steps.bands self.now.low self.now.high)) out.old }
     {
         out[0] = self.low;
-        let mut at = self.low;
         let mut count = 1;
-        while at < self.high {
-            let run = run_from(&self.grid.steps.bands, at, self.high);
-            let more = ((run.end - at) / run.step) as usize;
-            write_rungs(at, run.step, &mut out[count..count + more]);
-            count += more;
-            at = run.end;
+        for run in self.runs() {
+            let end = count + run.rungs();
+            run.write(&mut out[count..end]);
+            count = end;
         }
+    }
+
+    fn runs(&self) -> Runs
+        ensures { result.left ≡ self.now }
+    {
+        Runs { left: *self }
     }
 }

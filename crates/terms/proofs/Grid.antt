@@ -1,7 +1,8 @@
 -- The law of strikes, for any list of bands that passes the computed test.
-use Rattle.std.proofs.Common.{◌≡◌, ℕ, zero, suc, ◌+◌, ◌-◌, ◌*◌, ◌/◌, ◌%◌, ◌<◌, ◌≤◌, true, cond, ◌&&◌, eqb, ltb, leb, List, [], ◌∷◌, length, get_or, fold, sym, refl, ap, ◌∙◌, subst, ⊎_elim, mul-le-mul_right, mod-lt, suc-mul, lt_of_mul-lt-mul_right, div-add-mod', arith}
+use Rattle.std.proofs.Common.{◌≡◌, ℕ, suc, ◌+◌, ◌-◌, ◌*◌, ◌/◌, ◌%◌, ◌<◌, ◌≤◌, true, cond, eqb, ltb, leb, List, [], ◌∷◌, fold, find, Option, Some, None, sym, refl, ap, ◌∙◌, ⊎_elim, mul-le-mul_right, mod-lt, suc-mul, lt_of_mul-lt-mul_right, div-add-mod', arith}
 use native.Mathlib.Nat.{mul-mod_left, add-mod_right}
-use Rattle.std.proofs.lemmas.Bool.{le-leb, lt-leb, ltb-true, leb-true, eqb-true, and_parts, cases_lt}
+use Rattle.std.proofs.lemmas.Bool.{le-leb, lt-leb, lt-ltb, le-ltb, ltb-true, eqb-true, and_parts, cases_lt}
+use Rattle.std.proofs.lemmas.Bool.Decides.{nat_tests}
 use Rattle.terms.specs.declared.steps.StepBand.{StepBand}
 use Rattle.terms.specs.Steps.{step_in, joins, joined, Unbroken}
 
@@ -46,21 +47,13 @@ record Joint (a s : ℕ) (b : StepBand) (bs : List StepBand) : Type 0 where
   rest : joins b.from b.step bs ≡ true
 
 joint : (a s : ℕ) (b : StepBand) (bs : List StepBand) → joins a s (b ∷ bs) ≡ true → Joint a s b bs
-joint a s b bs t =
-    let here = ltb 0 s && eqb (a % s) 0 in
-    let there = leb a b.from && eqb (b.from % s) 0 in
-    let rest = joins b.from b.step bs in
-    let p = and_parts here (there && rest) t in
-    let q = and_parts (ltb 0 s) (eqb (a % s) 0) p.0 in
-    let r = and_parts there rest p.1 in
-    let u = and_parts (leb a b.from) (eqb (b.from % s) 0) r.0 in
-    record {
-      rises = ltb-true 0 s q.0;
-      on = eqb-true (a % s) 0 q.1;
-      up = leb-true a b.from u.0;
-      meets = eqb-true (b.from % s) 0 u.1;
-      rest = r.1;
-    }
+joint a s b bs t = record {
+  rises = grind (arith, nat_tests, t);
+  on = grind (arith, nat_tests, t);
+  up = grind (arith, nat_tests, t);
+  meets = grind (arith, nat_tests, t);
+  rest = grind (arith, nat_tests, t);
+}
 
 -- below the first band no band changes the step
 below : (bs : List StepBand) (a s t k : ℕ) → joins a t bs ≡ true → k < a → after s bs k ≡ s
@@ -101,7 +94,7 @@ piece (b ∷ bs) a s k t h =
     let n = piece bs b.from b.step b.from j.rest (omega arith) in
     let e : after s (b ∷ bs) k ≡ s = before b bs a s k j lt in
     let at : n.lo ≡ b.from = omega (arith, n.from, n.low) in
-    let on : b.from % after b.step bs b.from ≡ 0 = subst (λ (y : ℕ). y % after b.step bs b.from ≡ 0) at n.lo_on in
+    let on : b.from % after b.step bs b.from ≡ 0 = rw at at n.lo_on in
     record {
       lo = a;
       hi = b.from;
@@ -109,10 +102,10 @@ piece (b ∷ bs) a s k t h =
       low = h;
       high = lt;
       even = λ x _ hx. before b bs a s x j hx ∙ sym e;
-      rises = subst (λ (y : ℕ). 0 < y) (sym e) j.rises;
-      lo_on = subst (λ (y : ℕ). a % y ≡ 0) (sym e) j.on;
-      hi_on = subst (λ (y : ℕ). b.from % y ≡ 0) (sym e) j.meets;
-      next_on = subst (λ (y : ℕ). b.from % y ≡ 0) (sym (past b bs s b.from (omega arith))) on;
+      rises = rw e j.rises;
+      lo_on = rw e j.on;
+      hi_on = rw e j.meets;
+      next_on = rw (past b bs s b.from (omega arith)) on;
     })
     (λ le.
     let n = piece bs b.from b.step k j.rest le in
@@ -125,35 +118,42 @@ piece (b ∷ bs) a s k t h =
       low = n.low;
       high = n.high;
       even = λ x lx hx. past b bs s x (omega (arith, n.from)) ∙ n.even x lx hx ∙ sym e;
-      rises = subst (λ (y : ℕ). 0 < y) (sym e) n.rises;
-      lo_on = subst (λ (y : ℕ). n.lo % y ≡ 0) (sym e) n.lo_on;
-      hi_on = subst (λ (y : ℕ). n.hi % y ≡ 0) (sym e) n.hi_on;
-      next_on = subst (λ (y : ℕ). n.hi % y ≡ 0) (sym (past b bs s n.hi up)) n.next_on;
+      rises = rw e n.rises;
+      lo_on = rw e n.lo_on;
+      hi_on = rw e n.hi_on;
+      next_on = rw (past b bs s n.hi up) n.next_on;
     })
     (cases_lt k b.from)
 
--- no band begins below the first
-rising : (bs : List StepBand) (a s j : ℕ) (d : StepBand) → joins a s bs ≡ true → j < length bs → a ≤ (get_or bs j d).from
-rising [] a s j d t h = absurd (omega arith)
-rising (b ∷ bs) a s zero d t h = (joint a s b bs t).up
-rising (b ∷ bs) a s (suc j) d t h =
-    let i = joint a s b bs t in
-    omega (arith, i.up, rising bs b.from b.step j d i.rest (omega arith))
+-- Up to the first band that begins above k one step holds, and that band begins at a multiple of this step and of its own.
+abbrev pub Turn : (ℕ → ℕ) → ℕ → Option StepBand → Type 0
+Turn g k None = (x : ℕ) → k ≤ x → g x ≡ g k
+Turn g k (Some b) = (k < b.from) × (b.from % g k ≡ 0) × (b.from % g b.from ≡ 0) × ((x : ℕ) → k ≤ x → x < b.from → g x ≡ g k)
 
-start : (bs : List StepBand) (a s j : ℕ) (d : StepBand) → joins a s bs ≡ true → j < length bs
-    → (get_or bs j d).from % after s bs (get_or bs j d).from ≡ 0
-start [] a s j d t h = absurd (omega arith)
-start (b ∷ bs) a s zero d t h =
-    let i = joint a s b bs t in
-    let n = piece bs b.from b.step b.from i.rest (omega arith) in
+turn_past : (g h : ℕ → ℕ) (k : ℕ) (o : Option StepBand) → ((x : ℕ) → k ≤ x → h x ≡ g x) → Turn g k o → Turn h k o
+turn_past g h k None e t = λ x lo. e x lo ∙ t x lo ∙ sym (e k (omega arith))
+turn_past g h k (Some b) e t =
+    let here = e k (omega arith) in
+    let there = e b.from (omega (arith, t.0)) in
+    (t.0, rw here t.1, rw there t.2, λ x lo hi. e x lo ∙ t.3 x lo hi ∙ sym here)
+
+turn : (bs : List StepBand) (a s k : ℕ) → joins a s bs ≡ true → a ≤ k → Turn (after s bs) k (find (λ b. ltb k b.from) bs)
+turn [] a s k t h = λ x lo. refl
+turn (b ∷ bs) a s k t h =
+    let j = joint a s b bs t in
+    ⊎_elim
+    (λ lt.
+    let e : after s (b ∷ bs) k ≡ s = before b bs a s k j lt in
+    let n = piece bs b.from b.step b.from j.rest (omega arith) in
     let at : n.lo ≡ b.from = omega (arith, n.from, n.low) in
-    let on = subst (λ (y : ℕ). y % after b.step bs b.from ≡ 0) at n.lo_on in
-    subst (λ (y : ℕ). b.from % y ≡ 0) (sym (past b bs s b.from (omega arith))) on
-start (b ∷ bs) a s (suc j) d t h =
-    let i = joint a s b bs t in
-    let k = (get_or bs j d).from in
-    let up = rising bs b.from b.step j d i.rest (omega arith) in
-    subst (λ (y : ℕ). k % y ≡ 0) (sym (past b bs s k up)) (start bs b.from b.step j d i.rest (omega arith))
+    let on : b.from % after b.step bs b.from ≡ 0 = rw at at n.lo_on in
+    let own : b.from % after s (b ∷ bs) b.from ≡ 0 = rw (past b bs s b.from (omega arith)) on in
+    let found = lt-ltb k b.from lt in
+    simp found (lt, rw e j.meets, own, λ x lo hi. before b bs a s x j hi ∙ sym e))
+    (λ le.
+    let not_yet = le-ltb k b.from le in
+    simp not_yet (turn_past (after b.step bs) (after s (b ∷ bs)) k (find (λ b. ltb k b.from) bs) (λ x lo. past b bs s x (omega arith)) (turn bs b.from b.step k j.rest le)))
+    (cases_lt k b.from)
 
 pub pieces : (bands : List StepBand) → joined bands ≡ true → (k : ℕ) → Piece (step_in bands) 0 k
 pieces bands t k = piece bands 0 1 k t (omega arith)
@@ -180,7 +180,7 @@ module _ (bands : List StepBand) (t : joined bands ≡ true) where
 
   -- the multiple at or below x
   pub floor_on : (x : ℕ) → On (x - x % step_in bands x)
-  floor_on x = subst (λ (s : ℕ). (x - x % step_in bands x) % s ≡ 0) (sym (floor_step x)) (floor_mod (step_in bands x) x)
+  floor_on x = rw (floor_step x) (floor_mod (step_in bands x) x)
 
   pub next_on : (k : ℕ) → On k → On (k + step_in bands k)
   next_on k on =
@@ -190,8 +190,8 @@ module _ (bands : List StepBand) (t : joined bands ≡ true) where
       ⊎_elim
       (λ lt.
       let same : step_in bands (k + s) ≡ s = p.even (k + s) (omega (arith, p.low)) lt in
-      subst (λ (y : ℕ). (k + s) % y ≡ 0) (sym same) (add-mod_right k s ∙ on))
-      (λ le. let same : p.hi ≡ k + s = omega arith in subst (λ (y : ℕ). y % step_in bands y ≡ 0) same p.next_on)
+      rw same (add-mod_right k s ∙ on))
+      (λ le. let same : p.hi ≡ k + s = omega arith in rw same at p.next_on)
       (cases_lt (k + s) p.hi)
 
   pub next_least : (k m : ℕ) → On k → On m → k < m → k + step_in bands k ≤ m
@@ -202,7 +202,7 @@ module _ (bands : List StepBand) (t : joined bands ≡ true) where
       ⊎_elim
       (λ l.
       let same : step_in bands m ≡ s = p.even m (omega (arith, p.low)) l in
-      gap s k m on (subst (λ (y : ℕ). m % y ≡ 0) same onm) lt)
+      gap s k m on (rw same at onm) lt)
       (λ le. omega arith)
       (cases_lt m p.hi)
 
@@ -218,14 +218,13 @@ module _ (bands : List StepBand) (t : joined bands ≡ true) where
 
   -- the least multiple above the one at or below x
   pub ceil_on : (x : ℕ) → On ((x - x % step_in bands x) + step_in bands x)
-  ceil_on x = subst (λ (s : ℕ). On ((x - x % step_in bands x) + s)) (floor_step x) (next_on (x - x % step_in bands x) (floor_on x))
+  ceil_on x = let on = next_on (x - x % step_in bands x) (floor_on x) in rw (floor_step x) at on
 
   pub ceil_least : (x m : ℕ) → On m → x - x % step_in bands x < m → (x - x % step_in bands x) + step_in bands x ≤ m
   ceil_least x m onm lt = omega (arith, floor_step x, next_least (x - x % step_in bands x) m (floor_on x) onm lt)
 
--- each band begins at a multiple of the step that holds there
-pub starts_on : (bands : List StepBand) (t : joined bands ≡ true) (j : ℕ) (d : StepBand) → j < length bands → On bands t (get_or bands j d).from
-starts_on bands t j d h = start bands 0 1 j d t h
+pub turns : (bands : List StepBand) → joined bands ≡ true → (k : ℕ) → Turn (step_in bands) k (find (λ b. ltb k b.from) bands)
+turns bands t k = turn bands 0 1 k t (omega arith)
 
 pub unbroken : (bands : List StepBand) → joined bands ≡ true → Unbroken bands
 unbroken bands t = record {

@@ -1,2 +1,1 @@
-pub mod Bands
 pub mod Grid

@@ -135,6 +135,7 @@ impl Family {
     }
 
     /// How far apart the family's strikes lie.
+    #[tactic(auto, using(crate::proofs::Grid::unbroken))]
     pub fn steps(self) -> StepTable
         ensures value { result.bands ≡ bands_of self }
         ensures rule { (bands : List StepBand) → joined bands ≡ true → Unbroken bands }

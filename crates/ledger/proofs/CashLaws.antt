@@ -8,10 +8,9 @@ use Rattle.terms.specs.declared.kinds.SeriesKind.{SeriesKind}
 use Rattle.tariffs.specs.declared.side.Side.{Side}
 use Rattle.positions.specs.declared.position.Position.{Position}
 use Rattle.positions.specs.Positions.{flat}
-use Rattle.positions.specs.Keys.{line_key}
+use Rattle.positions.specs.Keys.{line_key, series_of_key, account_of_key}
 use Rattle.ledger.specs.declared.rows.Account.{Account}
 use Rattle.ledger.specs.Calls.{Pricing}
-use Rattle.ledger.specs.Numbers.{series_of_key, account_of_key}
 use Rattle.ledger.specs.Rows.{at, in_series, Each, sum_below}
 use Rattle.ledger.specs.Book.{Book, nobody, kind_at}
 use Rattle.ledger.specs.Charges.{bought_sides, all_bought, fees_of, bought_fees}

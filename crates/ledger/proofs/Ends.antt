@@ -10,12 +10,12 @@ use Rattle.terms.specs.declared.family.Family.{Family}
 use Rattle.positions.specs.declared.position.Position.{Position}
 use Rattle.positions.specs.Positions.{flat, units}
 use Rattle.positions.specs.Money.{amount, payoff}
-use Rattle.positions.specs.Keys.{future_key, line_key}
+use Rattle.positions.specs.Keys.{future_key, is_future_key, line_key, series_of_key}
 use Rattle.ledger.specs.declared.rows.State.{State}
 use Rattle.ledger.specs.declared.rows.State.TheVariants.{Trading, Fixed, Done}
 use Rattle.ledger.specs.declared.rows.Terms.{Terms}
 use Rattle.ledger.specs.Calls.{Series, Pricing, mark, exercise, settle}
-use Rattle.ledger.specs.Numbers.{series_kind, is_future, key_of, is_future_key, series_of_key}
+use Rattle.ledger.specs.Numbers.{series_kind, is_future, key_of}
 use Rattle.ledger.specs.Rows.{at, change, in_series, outside}
 use Rattle.ledger.specs.Book.{Book, family_in, nobody, unlisted, kind_at, terms_at, value_at, state_at, is_trading, is_done, final_of}
 use Rattle.ledger.specs.Charges.{all_bought, lapses_at, fees_of, bought_fees}

@@ -9,12 +9,12 @@ use Rattle.terms.specs.declared.kinds.SeriesKind.{SeriesKind}
 use Rattle.terms.specs.declared.kinds.SeriesKind.TheVariants.{Future, CallOnFuture, PutOnFuture}
 use Rattle.terms.specs.declared.kinds.SeriesKind.TheVariants as kinds
 use Rattle.positions.specs.Money.{payoff}
-use Rattle.positions.specs.Keys.{future_key}
+use Rattle.positions.specs.Keys.{future_key, is_future_key}
 use Rattle.ledger.specs.declared.rows.State.{State}
 use Rattle.ledger.specs.declared.rows.State.TheVariants.{Trading, Fixed, Done}
 use Rattle.ledger.specs.declared.rows.Terms.{Terms}
 use Rattle.ledger.specs.Calls.{Series, Pricing, settle}
-use Rattle.ledger.specs.Numbers.{series_kind, is_future, key_of, is_future_key}
+use Rattle.ledger.specs.Numbers.{series_kind, is_future, key_of}
 use Rattle.ledger.specs.Rows.{at, change, in_series}
 use Rattle.ledger.specs.Book.{Book, family_in, unlisted, terms_at, state_at, is_trading, is_fixed, is_done, final_of}
 use Rattle.ledger.specs.Post.{valued, stated, post_final}

@@ -11,7 +11,8 @@ use Rattle.positions.specs.Positions.{flat, units, is_flat}
 use Rattle.ledger.specs.declared.rows.State.TheVariants.{Done}
 use Rattle.ledger.specs.declared.rows.Terms.{Terms}
 use Rattle.ledger.specs.Calls.{Call, Pricing}
-use Rattle.ledger.specs.Numbers.{kind_of, on_future, is_future_key, kind_of_key, all_series, series_of_key}
+use Rattle.positions.specs.Keys.{is_future_key, series_of_key}
+use Rattle.ledger.specs.Numbers.{kind_of, on_future, kind_of_key, all_series}
 use Rattle.ledger.specs.Rows.{at, present, change, Each, sum_below}
 use Rattle.ledger.specs.Book.{Book, family_in, unlisted, kind_at, cash_at, terms_at, value_at, state_at, position_at, is_trading, is_done, final_of}
 use Rattle.ledger.specs.Post.{stated}

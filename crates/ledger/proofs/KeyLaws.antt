@@ -8,9 +8,9 @@ use Rattle.terms.specs.declared.kinds.SeriesKind.TheVariants as kinds
 use Rattle.terms.specs.declared.kinds.Size.{Size}
 use Rattle.terms.specs.declared.kinds.Size.TheVariants.{Full, Mini}
 use Rattle.series.specs.Listing.{offers, size_in, takes_strike}
-use Rattle.positions.specs.Keys.{future_key}
+use Rattle.positions.specs.Keys.{future_key, is_future_key}
 use Rattle.ledger.specs.Calls.{Series}
-use Rattle.ledger.specs.Numbers.{kind_of, size_of, series_kind, is_future, on_future, month_in, series_in, size_offered, key_of, is_future_key, kind_of_key, future_of_key, all_series}
+use Rattle.ledger.specs.Numbers.{kind_of, size_of, series_kind, is_future, on_future, month_in, series_in, size_offered, key_of, kind_of_key, future_of_key, all_series}
 
 pub record InRange (x : Series) : Type 0 where
   pub kind : x.kind < 5

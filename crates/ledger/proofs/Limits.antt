@@ -3,9 +3,9 @@ use Rattle.std.proofs.Common.{◌≡◌, ℕ, ◌<◌, Bool, true, false, cond, 
 use Rattle.std.proofs.lemmas.Bool.{eqb-true, leb-true, true≢false}
 use Rattle.positions.specs.declared.position.Position.{Position}
 use Rattle.positions.specs.Positions.{flat, units, closed}
-use Rattle.positions.specs.Keys.{future_key, line_key}
+use Rattle.positions.specs.Keys.{future_key, is_future_key, line_key, series_of_key, account_of_key}
 use Rattle.ledger.specs.Calls.{Trade, Call, Pricing, admit, list, trade, close, mark, delta, enter, exercise, settle}
-use Rattle.ledger.specs.Numbers.{key_of, is_future_key, all_series, series_of_key, account_of_key}
+use Rattle.ledger.specs.Numbers.{key_of, all_series}
 use Rattle.ledger.specs.Rows.{present}
 use Rattle.ledger.specs.Book.{Book, delta_at, weight, delta_of}
 use Rattle.ledger.specs.Post.{post}

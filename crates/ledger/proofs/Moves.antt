@@ -6,8 +6,7 @@ use Rattle.registers.specs.Rows.{Rows, Rising, lookup}
 use Rattle.registers.specs.Sums.{total_ℤ}
 use Rattle.positions.specs.declared.position.Position.{Position}
 use Rattle.positions.specs.Positions.{flat, units, is_flat}
-use Rattle.positions.specs.Keys.{line_key}
-use Rattle.ledger.specs.Numbers.{series_of_key, account_of_key}
+use Rattle.positions.specs.Keys.{line_key, series_of_key, account_of_key}
 use Rattle.ledger.specs.Rows.{at, revise, in_series, Each}
 use Rattle.ledger.specs.Post.{move_each}
 use Rattle.ledger.proofs.RowLaws.{at_below, rising_revise, each_revise}

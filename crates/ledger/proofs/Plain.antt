@@ -6,13 +6,13 @@ use Rattle.std.proofs.lemmas.Bool.{eqb-true, ne_eqb, true≢false, false≢true}
 use Rattle.terms.specs.declared.family.Family.{Family}
 use Rattle.positions.specs.declared.position.Position.{Position}
 use Rattle.positions.specs.Positions.{flat, units, closed, closable}
-use Rattle.positions.specs.Keys.{future_key, line_key}
+use Rattle.positions.specs.Keys.{future_key, is_future_key, line_key, series_of_key}
 use Rattle.ledger.specs.declared.rows.Account.{Account}
 use Rattle.ledger.specs.declared.rows.State.{State}
 use Rattle.ledger.specs.declared.rows.State.TheVariants.{Trading, Fixed, Done}
 use Rattle.ledger.specs.declared.rows.Terms.{Terms}
 use Rattle.ledger.specs.Calls.{Series, Pricing, admit, list, close, delta, enter}
-use Rattle.ledger.specs.Numbers.{account_kind_of, key_of, is_future_key, all_series, series_of_key}
+use Rattle.ledger.specs.Numbers.{account_kind_of, key_of, all_series}
 use Rattle.ledger.specs.Rows.{at, present, change}
 use Rattle.ledger.specs.Book.{Book, family_in, nobody, unlisted, terms_at, value_at, state_at, position_at, is_trading, is_done, final_of}
 use Rattle.ledger.specs.Post.{valued, stated, post}

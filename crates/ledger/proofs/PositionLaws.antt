@@ -12,9 +12,8 @@ use Rattle.terms.specs.declared.kinds.Size.{Size}
 use Rattle.terms.specs.declared.kinds.Size.TheVariants.{Full, Mini}
 use Rattle.positions.specs.declared.position.Position.{Position}
 use Rattle.positions.specs.Positions.{flat, units, added, less, opposed, settled, dealt, signed_like, closed, closable}
-use Rattle.positions.specs.Keys.{line_key}
+use Rattle.positions.specs.Keys.{line_key, series_of_key, account_of_key}
 use Rattle.ledger.specs.Calls.{Pricing}
-use Rattle.ledger.specs.Numbers.{series_of_key, account_of_key}
 use Rattle.ledger.specs.Rows.{at, revise, outside}
 use Rattle.ledger.specs.Charges.{bought_fees}
 use Rattle.ledger.specs.Post.{lots, assigned}

@@ -8,7 +8,7 @@ use Rattle.registers.proofs.Sums.{length-put, length_without}
 use Rattle.positions.specs.declared.position.Position.{Position}
 use Rattle.positions.specs.Positions.{flat, is_flat}
 use Rattle.ledger.specs.declared.rows.Account.{Account}
-use Rattle.ledger.specs.Numbers.{account_of_key}
+use Rattle.positions.specs.Keys.{account_of_key}
 use Rattle.ledger.specs.Rows.{at, present, change, revise, first, Each}
 use Rattle.ledger.specs.Book.{nobody}
 use Rattle.ledger.specs.Post.{paid, pay, pay_each}

@@ -13,8 +13,7 @@ use Rattle.registers.proofs.Stretches.{kept, rising_others, lookup-others, lengt
 use Rattle.registers.proofs.Sums.{total_ℤ-put, total_ℤ-without}
 use Rattle.positions.specs.declared.position.Position.{Position}
 use Rattle.positions.specs.Positions.{flat, is_flat}
-use Rattle.positions.specs.Keys.{line_key}
-use Rattle.ledger.specs.Numbers.{series_of_key}
+use Rattle.positions.specs.Keys.{line_key, series_of_key}
 use Rattle.ledger.specs.Rows.{at, present, change, revise, in_series, outside, Each, sum_below}
 
 -- ---- what stands under a key

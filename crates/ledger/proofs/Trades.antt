@@ -8,9 +8,9 @@ use Rattle.terms.specs.declared.kinds.AccountKind.{AccountKind}
 use Rattle.terms.specs.declared.kinds.Size.{Size}
 use Rattle.positions.specs.declared.position.Position.{Position}
 use Rattle.positions.specs.Positions.{flat, units, dealt}
-use Rattle.positions.specs.Keys.{line_key}
+use Rattle.positions.specs.Keys.{is_future_key, line_key, series_of_key}
 use Rattle.ledger.specs.Calls.{Trade, Pricing, trade}
-use Rattle.ledger.specs.Numbers.{kind_of, size_of, series_kind, is_future, on_future, key_of, is_future_key, kind_of_key, all_series, series_of_key}
+use Rattle.ledger.specs.Numbers.{kind_of, size_of, series_kind, is_future, on_future, key_of, kind_of_key, all_series}
 use Rattle.ledger.specs.Rows.{at, present, revise, Each, sum_below}
 use Rattle.ledger.specs.Book.{Book, family_in, kind_at, cash_at}
 use Rattle.ledger.specs.Charges.{trade_side, fee_of}

@@ -9,12 +9,12 @@ use Rattle.registers.proofs.Always.{rising}
 use Rattle.positions.specs.declared.position.Position.{Position}
 use Rattle.positions.specs.Positions.{units, in_range}
 use Rattle.positions.specs.Money.{amount, balance_in}
-use Rattle.positions.specs.Keys.{future_key}
+use Rattle.positions.specs.Keys.{future_key, account_of_key}
 use Rattle.ledger.specs.declared.rows.State.{State}
 use Rattle.ledger.specs.declared.rows.State.TheVariants.{Trading, Fixed, Done}
 use Rattle.ledger.specs.declared.rows.Terms.{Terms}
 use Rattle.ledger.specs.Calls.{mark}
-use Rattle.ledger.specs.Numbers.{month_in, price_in, account_of_key}
+use Rattle.ledger.specs.Numbers.{month_in, price_in}
 use Rattle.ledger.specs.Rows.{at, present, in_series, Each}
 use Rattle.ledger.specs.Book.{Book, family_in, unlisted, cash_at, value_at, position_at, is_trading, month_at}
 use Rattle.ledger.specs.Judge.{Verdict, accepted, unless, judge_opening, judge_mark, judge_call, holder_in, overdrawn}

@@ -9,7 +9,7 @@ use Rattle.terms.specs.Refusals.{about}
 use Rattle.registers.specs.Rows.{Rows}
 use Rattle.positions.specs.declared.position.Position.{Position}
 use Rattle.ledger.specs.declared.rows.Account.{Account}
-use Rattle.ledger.specs.Numbers.{account_of_key}
+use Rattle.positions.specs.Keys.{account_of_key}
 use Rattle.ledger.specs.Judge.{Verdict, need}
 use Rattle.ledger.specs.Post.{pay}
 use Rattle.settling.specs.Payments.{affords, tested, Ready, pay_all}

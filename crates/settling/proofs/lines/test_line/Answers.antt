@@ -1,7 +1,7 @@
 use Rattle.std.proofs.Common.{◌≡◌, Some, Err, sym, ap, ◌∙◌, w64, SFits, rules}
 use Rattle.registers.specs.Rows.{lookup}
 use Rattle.registers.specs.Held.{rows_of}
-use Rattle.ledger.specs.Numbers.{account_of_key}
+use Rattle.positions.specs.Keys.{account_of_key}
 use Rattle.ledger.specs.Judge as judging
 use Rattle.tables.proofs.Following.{passes, fails}
 use Rattle.settling.proofs.Balances.{cannot, can}

@@ -1,5 +1,6 @@
 -- Cash: what a payment, and a payment for each position, do to a balance and to the sum of all; fees over positions.
 use Rattle.std.proofs.Common.{◌≡◌, ℕ, ◌<◌, Bool, true, false, cond, ◌&&◌, eqb, List, [], ◌∷◌, ◌++◌, ℤ, pos, ◌+ℤ◌, sym, refl, ap, ◌∙◌, arith}
+use Rattle.std.proofs.lemmas.Grind.{common_steps}
 use borrow.Author.Differences.{ints}
 use Rattle.std.proofs.lemmas.Bool.{eqb-true}
 use Rattle.registers.specs.Rows.{Rows, Rising}
@@ -8,10 +9,9 @@ use Rattle.terms.specs.declared.kinds.SeriesKind.{SeriesKind}
 use Rattle.tariffs.specs.declared.side.Side.{Side}
 use Rattle.positions.specs.declared.position.Position.{Position}
 use Rattle.positions.specs.Positions.{flat}
-use Rattle.positions.specs.Keys.{line_key}
+use Rattle.positions.specs.Keys.{line_key, series_of_key, account_of_key}
 use Rattle.ledger.specs.declared.rows.Account.{Account}
 use Rattle.ledger.specs.Calls.{Pricing}
-use Rattle.ledger.specs.Numbers.{series_of_key, account_of_key}
 use Rattle.ledger.specs.Rows.{at, in_series, Each, sum_below}
 use Rattle.ledger.specs.Book.{Book, nobody, kind_at}
 use Rattle.ledger.specs.Charges.{bought_sides, all_bought, fees_of, bought_fees}
@@ -23,12 +23,10 @@ abbrev pub cash_in : ℕ → Account → ℤ
 cash_in k c = c.cash
 
 if_cash : (c : Bool) (x : ℤ) (p : Account) → (cond c (paid x p) p).cash ≡ p.cash +ℤ cond c x (pos 0)
-if_cash true x p = refl
-if_cash false x p = omega (arith, ints)
+if_cash c x p = grind arith
 
 if_kind : (c : Bool) (x : ℤ) (p : Account) → (cond c (paid x p) p).kind ≡ p.kind
-if_kind true x p = refl
-if_kind false x p = refl
+if_kind c x p = grind arith
 
 pub cash_pay : (a c : ℕ) (x : ℤ) (cs : Rows Account) → (at nobody (pay c x cs) a).cash ≡ (at nobody cs a).cash +ℤ cond (eqb a c) x (pos 0)
 unfolding pay
@@ -115,6 +113,4 @@ pub fees_bought : (b : Book) (p : Pricing) (k : SeriesKind) (rs : Rows Position)
     → fees_of p (all_bought b k rs) ≡ total_ℤ (brings (λ a l. bought_fees p a (kind_at b a) k l)) rs
 unfolding total_ℤ bought_fees
 fees_bought b p k [] = refl
-fees_bought b p k (r ∷ rs) =
-    fees_++ p (bought_sides (account_of_key r.0) (kind_at b (account_of_key r.0)) k r.1) (all_bought b k rs)
-    ∙ omega (arith, ints, fees_bought b p k rs)
+fees_bought b p k (r ∷ rs) = grind (arith, common_steps, fees_bought b p k rs)

@@ -1,5 +1,6 @@
 -- A mark that moves, a series that lapses, and a cash option that is settled.
 use Rattle.std.proofs.Common.{◌≡◌, ℕ, ◌<◌, Bool, true, false, cond, eqb, ltb, [], ◌∷◌, ℤ, pos, ◌-ℤ◌, sym, refl, ap, ◌∙◌, arith}
+use Rattle.std.proofs.lemmas.Grind.{common_steps}
 use mathlib.Core.Path.{fun_ext}
 use lib.IntN.{+ℤ_idl}
 use borrow.Author.Differences.{ints}
@@ -10,12 +11,12 @@ use Rattle.terms.specs.declared.family.Family.{Family}
 use Rattle.positions.specs.declared.position.Position.{Position}
 use Rattle.positions.specs.Positions.{flat, units}
 use Rattle.positions.specs.Money.{amount, payoff}
-use Rattle.positions.specs.Keys.{future_key, line_key}
+use Rattle.positions.specs.Keys.{future_key, is_future_key, line_key, series_of_key}
 use Rattle.ledger.specs.declared.rows.State.{State}
 use Rattle.ledger.specs.declared.rows.State.TheVariants.{Trading, Fixed, Done}
 use Rattle.ledger.specs.declared.rows.Terms.{Terms}
 use Rattle.ledger.specs.Calls.{Series, Pricing, mark, exercise, settle}
-use Rattle.ledger.specs.Numbers.{series_kind, is_future, key_of, is_future_key, series_of_key}
+use Rattle.ledger.specs.Numbers.{series_kind, is_future, key_of}
 use Rattle.ledger.specs.Rows.{at, change, in_series, outside}
 use Rattle.ledger.specs.Book.{Book, family_in, nobody, unlisted, kind_at, terms_at, value_at, state_at, is_trading, is_done, final_of}
 use Rattle.ledger.specs.Charges.{all_bought, lapses_at, fees_of, bought_fees}
@@ -32,8 +33,8 @@ use Rattle.ledger.proofs.Kept.{Good, Kept, on, value_of, at_terms, done_back, do
 -- ---- sums over the positions in a series
 total-amount : (f : Family) (d : ℤ) (rs : Rows Position) → total_ℤ (λ _ l. amount f (units l) d) rs ≡ amount f (total_ℤ (λ _ l. units l) rs) d
 unfolding total_ℤ
-total-amount f d [] = sym (zero_amount f d)
-total-amount f d (r ∷ rs) = rw (+-amount f (units r.1) (total_ℤ (λ _ l. units l) rs) d) (omega (arith, ints, total-amount f d rs))
+total-amount f d [] = grind (arith, +-amount, zero_amount)
+total-amount f d (r ∷ rs) = grind (arith, +-amount, zero_amount, total-amount f d rs)
 
 -- where the units add up to zero, so does what they are paid
 pub paid_level : (f : Family) (d : ℤ) (s : ℕ) (ps : Rows Position) → total_ℤ (units_in s) ps ≡ pos 0 → total_ℤ (λ _ l. amount f (units l) d) (in_series s ps) ≡ pos 0
@@ -58,9 +59,7 @@ module _ (b : Book) (j : Journal) (κ : Kept b j) (s : ℕ) (v : ℤ) where
       ∙ omega (arith, ints, paid_level (family_in b) (v -ℤ value_at b s) s b.positions (κ.level s))
 
 trading_open : (q : State) → is_trading q ≡ true → is_done q ≡ false
-trading_open Trading e = refl
-trading_open (Fixed x) e = refl
-trading_open Done e = absurd (false≢true e)
+trading_open q e = grind arith
 
 pub mark_kept : (b : Book) (j : Journal) (m x : ℕ) (p : Pricing) → is_trading (state_at b (future_key m)) ≡ true → Kept b j → Kept (post b (mark m x) p) (on (mark m x) p j)
 unfolding post
@@ -99,36 +98,22 @@ mark_kept b j m x p e κ =
 -- ---- a series ends
 module _ (b : Book) (j : Journal) (κ : Kept b j) (n : ℕ) where
   pub ended_line : (a s : ℕ) → a < 65536 → at flat (outside n b.positions) (line_key s a) ≡ cond (eqb s n) flat (position_in a s j)
-  ended_line a s l =
-      at_outside n (line_key s a) b.positions κ.position_order
-      ∙ rw (series_of_key_lem s a l) (ap (cond (eqb s n) flat) (κ.counts a s l))
+  ended_line a s l = grind (arith, at_outside)
 
   pub ended_unit : (c : Bool) (l : Position) (y : ℤ) → units l ≡ y → units (cond c flat l) ≡ cond c (pos 0) y
-  ended_unit true l y h = refl
-  ended_unit false l y h = h
+  ended_unit c l y h = grind arith
 
   pub ended_level : (s : ℕ) → total_ℤ (units_in s) (outside n b.positions) ≡ pos 0
-  ended_level s = total-outside s n b.positions ∙ ways (eqb s n)
-    where
-      ways : (c : Bool) → cond c (pos 0) (total_ℤ (units_in s) b.positions) ≡ pos 0
-      ways true = refl
-      ways false = κ.level s
+  ended_level s = grind (arith, total-outside)
 
   pub ended_none : (c : Bool) (l : Position) → l ≡ flat → cond c flat l ≡ flat
-  ended_none true l e = refl
-  ended_none false l e = e
+  ended_none c l e = grind arith
 
   pub ended_held : (c : Bool) (y : ℤ) → c ≡ false → cond c (pos 0) y ≡ y
-  ended_held true y e = absurd (true≢false e)
-  ended_held false y e = refl
+  ended_held c y e = grind arith
 
   pub ended_value : (s : ℕ) → value_at (post_end b n) s ≡ value_at b s
-  ended_value s =
-      ap (λ (t : Terms). t.value) (at_terms (stated Done) n s b.series) ∙ value_of (eqb s n) (stated Done (terms_at b n)) (terms_at b s) ∙ ways (eqb s n) refl
-    where
-      ways : (c : Bool) → eqb s n ≡ c → cond c (value_at b n) (value_at b s) ≡ value_at b s
-      ways true q = ap (value_at b) (sym (eqb-true s n q))
-      ways false q = refl
+  ended_value s = grind (arith, at_terms)
 
 pub lapse_kept : (b : Book) (j : Journal) (x : Series) (level : ℕ) (p : Pricing) → lapses_at x level ≡ true → is_future_key (key_of x) ≡ false → Kept b j
     → Kept (post_end b (key_of x)) (on (exercise x level) p j)
@@ -164,11 +149,7 @@ module _ (b : Book) (j : Journal) (x : Series) (p : Pricing) (κ : Kept b j) whe
   cash_fee a l = settle_fees b p x gain a l
 
   cash_fee_none : (a : ℕ) → cash_fee a flat ≡ pos 0
-  cash_fee_none a = ways (ltb 0 gain)
-    where
-      ways : (c : Bool) → cond c (bought_fees p a (kind_at b a) (series_kind x) flat) (pos 0) ≡ pos 0
-      ways true = bought_fees_none p a (kind_at b a) (series_kind x)
-      ways false = refl
+  cash_fee_none a = grind (arith, bought_fees_none)
 
   abbrev gets : ℕ → Position → ℤ
   gets a l = amount (family_in b) (units l) (pos gain) -ℤ cash_fee a l

@@ -12,10 +12,10 @@ use Rattle.terms.specs.declared.kinds.SeriesKind.TheVariants as kinds
 use Rattle.positions.specs.declared.position.Position.{Position}
 use Rattle.positions.specs.Positions.{flat, units}
 use Rattle.positions.specs.Money.{amount}
-use Rattle.positions.specs.Keys.{future_key, line_key}
+use Rattle.positions.specs.Keys.{future_key, is_future_key, line_key, series_of_key}
 use Rattle.ledger.specs.declared.rows.State.TheVariants.{Done}
 use Rattle.ledger.specs.Calls.{Series, Pricing, exercise}
-use Rattle.ledger.specs.Numbers.{kind_of, series_kind, on_future, key_of, is_future_key, kind_of_key, all_series, series_of_key}
+use Rattle.ledger.specs.Numbers.{kind_of, series_kind, on_future, key_of, kind_of_key, all_series}
 use Rattle.ledger.specs.Rows.{at, present, change, in_series, outside, Each}
 use Rattle.ledger.specs.Book.{Book, family_in, unlisted, kind_at, state_at, is_done}
 use Rattle.ledger.specs.Charges.{lapses_at, bought_fees}

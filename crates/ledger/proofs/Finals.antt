@@ -1,5 +1,6 @@
 -- A future is settled.
 use Rattle.std.proofs.Common.{◌≡◌, ℕ, Bool, true, false, cond, eqb, ℤ, pos, sym, refl, ap, ◌∙◌, arith}
+use Rattle.std.proofs.lemmas.Grind.{common_steps}
 use mathlib.Core.Path.{fun_ext}
 use lib.IntN.{+ℤ_idl}
 use borrow.Author.Differences.{ints}
@@ -9,12 +10,12 @@ use Rattle.terms.specs.declared.kinds.SeriesKind.{SeriesKind}
 use Rattle.terms.specs.declared.kinds.SeriesKind.TheVariants.{Future, CallOnFuture, PutOnFuture}
 use Rattle.terms.specs.declared.kinds.SeriesKind.TheVariants as kinds
 use Rattle.positions.specs.Money.{payoff}
-use Rattle.positions.specs.Keys.{future_key}
+use Rattle.positions.specs.Keys.{future_key, is_future_key}
 use Rattle.ledger.specs.declared.rows.State.{State}
 use Rattle.ledger.specs.declared.rows.State.TheVariants.{Trading, Fixed, Done}
 use Rattle.ledger.specs.declared.rows.Terms.{Terms}
 use Rattle.ledger.specs.Calls.{Series, Pricing, settle}
-use Rattle.ledger.specs.Numbers.{series_kind, is_future, key_of, is_future_key}
+use Rattle.ledger.specs.Numbers.{series_kind, is_future, key_of}
 use Rattle.ledger.specs.Rows.{at, change, in_series}
 use Rattle.ledger.specs.Book.{Book, family_in, unlisted, terms_at, state_at, is_trading, is_fixed, is_done, final_of}
 use Rattle.ledger.specs.Post.{valued, stated, post_final}
@@ -26,22 +27,14 @@ use Rattle.ledger.proofs.Kept.{Good, Kept, on, value_of, at_terms}
 use Rattle.ledger.proofs.Ends.{moved, cash_moved, total_moved, ended_line, ended_unit, ended_level, ended_none, ended_held}
 
 Fixed-open : (q : State) → is_fixed q ≡ true → is_done q ≡ false
-Fixed-open Trading e = refl
-Fixed-open (Fixed x) e = refl
-Fixed-open Done e = absurd (false≢true e)
+Fixed-open q e = grind arith
 
 Fixed-shut : (q : State) → is_fixed q ≡ true → is_trading q ≡ false
-Fixed-shut Trading e = absurd (false≢true e)
-Fixed-shut (Fixed x) e = refl
-Fixed-shut Done e = refl
+Fixed-shut q e = grind arith
 
 -- a future has no payoff
 pays_none : (k : SeriesKind) (strike final : ℕ) → is_future k ≡ true → payoff k strike final ≡ 0
-pays_none Future strike final e = refl
-pays_none kinds.Call strike final e = absurd (false≢true e)
-pays_none kinds.Put strike final e = absurd (false≢true e)
-pays_none CallOnFuture strike final e = refl
-pays_none PutOnFuture strike final e = refl
+pays_none k strike final e = grind arith
 
 module _ (b : Book) (j : Journal) (x : Series) (p : Pricing) (κ : Kept b j) where
   abbrev n : ℕ
@@ -58,31 +51,16 @@ module _ (b : Book) (j : Journal) (x : Series) (p : Pricing) (κ : Kept b j) whe
   rs = change unlisted (stated Done) n (change unlisted (valued v) n b.series)
 
   at_ends : (s : ℕ) → at unlisted rs s ≡ cond (eqb s n) (ends (terms_at b n)) (terms_at b s)
-  at_ends s =
-      at_terms (stated Done) n s (change unlisted (valued v) n b.series)
-      ∙ rw (at_terms (valued v) n n b.series, at_terms (valued v) n s b.series, eq-eqb n n refl) (ways (eqb s n))
-    where
-      ways : (c : Bool) → cond c (ends (terms_at b n)) (cond c (valued v (terms_at b n)) (terms_at b s)) ≡ cond c (ends (terms_at b n)) (terms_at b s)
-      ways true = refl
-      ways false = refl
+  at_ends s = grind (arith, at_terms)
 
   open_before : (s : ℕ) → is_done (at unlisted rs s).state ≡ false → (eqb s n ≡ false) × (is_done (state_at b s) ≡ false)
-  open_before s e = ways (eqb s n) (rw (at_ends s) at e)
-    where
-      ways : (c : Bool) → is_done (cond c (ends (terms_at b n)) (terms_at b s)).state ≡ false → (c ≡ false) × (is_done (state_at b s) ≡ false)
-      ways true d = absurd (true≢false d)
-      ways false d = (refl, d)
+  open_before s e = grind (arith, at_ends)
 
   value_ends : (s : ℕ) → (at unlisted rs s).value ≡ cond (eqb s n) v (given_in j s)
-  value_ends s = ap (λ (t : Terms). t.value) (at_ends s) ∙ value_of (eqb s n) (ends (terms_at b n)) (terms_at b s) ∙ ap (cond (eqb s n) v) (κ.values s)
+  value_ends s = grind (arith, at_ends)
 
   final_ends : (s : ℕ) → is_future_key s ≡ true → is_trading (at unlisted rs s).state ≡ false → final_of (at unlisted rs s) ≡ final_in j s
-  final_ends s f t = ap final_of (at_ends s) ∙ ways (eqb s n) refl (rw (at_ends s) at t)
-    where
-      ways : (c : Bool) → eqb s n ≡ c → is_trading (cond c (ends (terms_at b n)) (terms_at b s)).state ≡ false
-          → final_of (cond c (ends (terms_at b n)) (terms_at b s)) ≡ final_in j s
-      ways true q d = ap (final_in j) (sym (eqb-true s n q))
-      ways false q d = κ.finals s f d
+  final_ends s f t = grind (arith, at_ends)
 
   -- and its settlement no fee
   free : is_future (series_kind x) ≡ true → (a : ℕ) → fee_by (settle x) p a j ≡ pos 0

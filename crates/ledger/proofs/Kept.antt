@@ -1,5 +1,6 @@
 -- What every accepted call keeps between the book and the journal, and small laws that the calls share.
 use Rattle.std.proofs.Common.{◌≡◌, ℕ, ◌<◌, Bool, true, false, cond, eqb, ◌∷◌, ℤ, pos, ◌+ℤ◌, ◌-ℤ◌, sym, refl, ap, ◌∙◌, subst, arith}
+use Rattle.std.proofs.lemmas.Grind.{common_steps}
 use lib.IntN.{+ℤ_idl}
 use borrow.Author.Differences.{ints}
 use Rattle.std.proofs.lemmas.Bool.{eqb-true, true≢false}
@@ -11,7 +12,8 @@ use Rattle.positions.specs.Positions.{flat, units, is_flat}
 use Rattle.ledger.specs.declared.rows.State.TheVariants.{Done}
 use Rattle.ledger.specs.declared.rows.Terms.{Terms}
 use Rattle.ledger.specs.Calls.{Call, Pricing}
-use Rattle.ledger.specs.Numbers.{kind_of, on_future, is_future_key, kind_of_key, all_series, series_of_key}
+use Rattle.positions.specs.Keys.{is_future_key, series_of_key}
+use Rattle.ledger.specs.Numbers.{kind_of, on_future, kind_of_key, all_series}
 use Rattle.ledger.specs.Rows.{at, present, change, Each, sum_below}
 use Rattle.ledger.specs.Book.{Book, family_in, unlisted, kind_at, cash_at, terms_at, value_at, state_at, position_at, is_trading, is_done, final_of}
 use Rattle.ledger.specs.Post.{stated}
@@ -56,44 +58,28 @@ on c p j = record { call = c; pricing = p; accepted = true } ∷ j
 
 -- ---- terms
 pub value_of : (c : Bool) (t u : Terms) → (cond c t u).value ≡ cond c t.value u.value
-value_of true t u = refl
-value_of false t u = refl
+value_of c t u = grind arith
 
 pub state_of : (c : Bool) (t u : Terms) → (cond c t u).state ≡ cond c t.state u.state
-state_of true t u = refl
-state_of false t u = refl
+state_of c t u = grind arith
 
 pub at_terms : (g : Terms → Terms) (n s : ℕ) (rs : Rows Terms) → at unlisted (change unlisted g n rs) s ≡ cond (eqb s n) (g (at unlisted rs n)) (at unlisted rs s)
-at_terms g n s rs = at_change unlisted g n s rs ∙ ways (eqb s n) refl
-  where
-    ways : (c : Bool) → eqb s n ≡ c → cond c (g (at unlisted rs s)) (at unlisted rs s) ≡ cond c (g (at unlisted rs n)) (at unlisted rs s)
-    ways true e = ap (λ (k : ℕ). g (at unlisted rs k)) (eqb-true s n e)
-    ways false e = refl
+at_terms g n s rs = grind (arith, at_change)
 
 -- a series that is not Done after a change was not before
 pub done_back : (g : Terms → Terms) (n s : ℕ) (rs : Rows Terms) → (is_done (g (at unlisted rs n)).state ≡ false → is_done (at unlisted rs n).state ≡ false)
     → is_done (at unlisted (change unlisted g n rs) s).state ≡ false → is_done (at unlisted rs s).state ≡ false
-done_back g n s rs h e = ways (eqb s n) refl (rw (at_terms g n s rs) at e)
-  where
-    ways : (c : Bool) → eqb s n ≡ c → is_done (cond c (g (at unlisted rs n)) (at unlisted rs s)).state ≡ false → is_done (at unlisted rs s).state ≡ false
-    ways true q d = rw (eqb-true s n q) (h d)
-    ways false q d = d
+done_back g n s rs h e = grind (arith, at_terms)
 
 -- a series that is not Done is not the one that has just ended
 pub done_other : (n s : ℕ) (rs : Rows Terms) → is_done (at unlisted (change unlisted (stated Done) n rs) s).state ≡ false → eqb s n ≡ false
-done_other n s rs e = ways (eqb s n) (rw (at_terms (stated Done) n s rs) at e)
-  where
-    ways : (c : Bool) → is_done (cond c (stated Done (at unlisted rs n)) (at unlisted rs s)).state ≡ false → c ≡ false
-    ways true d = absurd (true≢false d)
-    ways false d = refl
+done_other n s rs e = grind (arith, at_terms)
 
 -- the final price stays where the terms do
 pub final_back : (g : Terms → Terms) (n s : ℕ) (rs : Rows Terms) (v : ℕ) → eqb s n ≡ false
     → (is_trading (at unlisted rs s).state ≡ false → final_of (at unlisted rs s) ≡ v)
     → is_trading (at unlisted (change unlisted g n rs) s).state ≡ false → final_of (at unlisted (change unlisted g n rs) s) ≡ v
-final_back g n s rs v e h =
-    let q : at unlisted (change unlisted g n rs) s ≡ at unlisted rs s = at_terms g n s rs ∙ ap (λ (c : Bool). cond c (g (at unlisted rs n)) (at unlisted rs s)) e in
-    subst (λ (t : Terms). is_trading t.state ≡ false → final_of t ≡ v) (sym q) h
+final_back g n s rs v e h = grind (arith, at_terms)
 
 -- ---- a call that brings no money
 pub idle_cash : (x : ℤ) (f : Family) (a : ℕ) (now : ℕ → ℤ) (j : Journal) → x ≡ worth_then f a now j -ℤ fees a j → x ≡ (pos 0 +ℤ worth_then f a now j) -ℤ (pos 0 +ℤ fees a j)

@@ -1,5 +1,6 @@
 -- The numbers of series, and their keys.
 use Rattle.std.proofs.Common.{◌≡◌, ℕ, zero, suc, ◌+◌, ◌*◌, ◌%◌, ◌<◌, ◌≤◌, Bool, true, false, ◌&&◌, eqb, ltb, leb, sym, refl, ap, ◌∙◌, arith}
+use Rattle.std.proofs.lemmas.Grind.{common_steps}
 use Rattle.std.proofs.lemmas.Bool.{eqb-true, eqb-false, eq-eqb, ne_eqb, ltb-true, leb-true, and_parts, true≢false, false≢true}
 use Rattle.terms.specs.declared.family.Family.{Family}
 use Rattle.terms.specs.declared.kinds.SeriesKind.{SeriesKind}
@@ -8,9 +9,9 @@ use Rattle.terms.specs.declared.kinds.SeriesKind.TheVariants as kinds
 use Rattle.terms.specs.declared.kinds.Size.{Size}
 use Rattle.terms.specs.declared.kinds.Size.TheVariants.{Full, Mini}
 use Rattle.series.specs.Listing.{offers, size_in, takes_strike}
-use Rattle.positions.specs.Keys.{future_key}
+use Rattle.positions.specs.Keys.{future_key, is_future_key}
 use Rattle.ledger.specs.Calls.{Series}
-use Rattle.ledger.specs.Numbers.{kind_of, size_of, series_kind, is_future, on_future, month_in, series_in, size_offered, key_of, is_future_key, kind_of_key, future_of_key, all_series}
+use Rattle.ledger.specs.Numbers.{kind_of, size_of, series_kind, is_future, on_future, month_in, series_in, size_offered, key_of, kind_of_key, future_of_key, all_series}
 
 pub record InRange (x : Series) : Type 0 where
   pub kind : x.kind < 5
@@ -22,57 +23,27 @@ option_strike : (s : ℕ) → (leb 1 s && leb s 110000) ≡ true → s < 131072
 option_strike s e = omega (arith, leb-true s 110000 (and_parts (leb 1 s) (leb s 110000) e).1)
 
 strike_small : (k : SeriesKind) (s : ℕ) → takes_strike k s ≡ true → s < 131072
-strike_small Future s e = omega (arith, eqb-true s 0 e)
-strike_small kinds.Call s e = option_strike s e
-strike_small kinds.Put s e = option_strike s e
-strike_small CallOnFuture s e = option_strike s e
-strike_small PutOnFuture s e = option_strike s e
+strike_small k s e = grind arith
 
 strike_none : (k : SeriesKind) (s : ℕ) → takes_strike k s ≡ true → is_future k ≡ true → s ≡ 0
-strike_none Future s e h = eqb-true s 0 e
-strike_none kinds.Call s e h = absurd (false≢true h)
-strike_none kinds.Put s e h = absurd (false≢true h)
-strike_none CallOnFuture s e h = absurd (false≢true h)
-strike_none PutOnFuture s e h = absurd (false≢true h)
+strike_none k s e h = grind arith
 
 pub month_range : (m : ℕ) → month_in m ≡ true → (24000 ≤ m) × (m ≤ 25199)
 month_range m e = let h = and_parts (leb 24000 m) (leb m 25199) e in (leb-true 24000 m h.0, leb-true m 25199 h.1)
 
 pub in_range_lem : (f : Family) (x : Series) → series_in f x ≡ true → InRange x
-in_range_lem f x e =
-    let h1 = and_parts (ltb x.kind 5) (offers f (series_kind x) && (month_in x.month && takes_strike (series_kind x) x.strike)) e in
-    let h2 = and_parts (offers f (series_kind x)) (month_in x.month && takes_strike (series_kind x) x.strike) h1.1 in
-    let h3 = and_parts (month_in x.month) (takes_strike (series_kind x) x.strike) h2.1 in
-    record {
-      kind = ltb-true x.kind 5 h1.0;
-      month = month_range x.month h3.0;
-      strike = strike_small (series_kind x) x.strike h3.1;
-      bare = strike_none (series_kind x) x.strike h3.1;
-    }
+in_range_lem f x e = grind arith
 
 -- ---- kinds
 future_number : (n : ℕ) → is_future (kind_of n) ≡ eqb n 0
-future_number zero = refl
-future_number (suc zero) = refl
-future_number (suc (suc zero)) = refl
-future_number (suc (suc (suc zero))) = refl
-future_number (suc (suc (suc (suc n)))) = sym (ne_eqb (suc (suc (suc (suc n)))) 0 (λ e. omega arith))
+future_number n = grind arith
 
 pub not_both : (k : SeriesKind) → on_future k ≡ true → is_future k ≡ false
-not_both Future e = absurd (false≢true e)
-not_both kinds.Call e = refl
-not_both kinds.Put e = refl
-not_both CallOnFuture e = refl
-not_both PutOnFuture e = refl
+not_both k e = grind arith
 
 -- options on the future have no minis
 full_only : (f : Family) (k : SeriesKind) (z : Size) → size_in f k z ≡ true → on_future k ≡ true → z ≡ Full
-full_only f k Full e h = refl
-full_only f Future Mini e h = absurd (false≢true h)
-full_only f kinds.Call Mini e h = absurd (false≢true h)
-full_only f kinds.Put Mini e h = absurd (false≢true h)
-full_only f CallOnFuture Mini e h = absurd (false≢true e)
-full_only f PutOnFuture Mini e h = absurd (false≢true e)
+full_only f k z e h = grind arith
 
 pub size_full : (f : Family) (x : Series) (z : ℕ) → size_offered f x z ≡ true → on_future (series_kind x) ≡ true → size_of z ≡ Full
 size_full f x z e h = full_only f (series_kind x) (size_of z) (and_parts (ltb z 2) (size_in f (series_kind x) (size_of z)) e).1 h
@@ -85,11 +56,7 @@ pub key_future : (x : Series) → InRange x → is_future (series_kind x) ≡ tr
 key_future x r e = omega (arith, r.bare e, eqb-true x.kind 0 (sym (future_number x.kind) ∙ e))
 
 pub key_is_future : (x : Series) → InRange x → is_future_key (key_of x) ≡ is_future (series_kind x)
-key_is_future x r = ways (is_future (series_kind x)) refl
-  where
-    ways : (c : Bool) → is_future (series_kind x) ≡ c → is_future_key (key_of x) ≡ c
-    ways true e = eq-eqb _ _ (omega (arith, key_rest x r, eqb-true x.kind 0 (sym (future_number x.kind) ∙ e), r.bare e))
-    ways false e = ne_eqb _ _ (λ q. eqb-false x.kind 0 (sym (future_number x.kind) ∙ e) (omega (arith, key_rest x r, q)))
+key_is_future x r = grind arith
 
 pub future_is : (m : ℕ) → is_future_key (future_key m) ≡ true
 future_is m = eq-eqb _ _ (omega arith)

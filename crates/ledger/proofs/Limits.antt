@@ -1,11 +1,12 @@
 -- Deltas: the book's is the ledger's, and a quiet call keeps an account's within the limit or where it was.
 use Rattle.std.proofs.Common.{◌≡◌, ℕ, ◌<◌, Bool, true, false, cond, ◌&&◌, eqb, ℤ, pos, sym, refl, ap, ◌∙◌, subst, arith}
+use Rattle.std.proofs.lemmas.Grind.{common_steps}
 use Rattle.std.proofs.lemmas.Bool.{eqb-true, leb-true, true≢false}
 use Rattle.positions.specs.declared.position.Position.{Position}
 use Rattle.positions.specs.Positions.{flat, units, closed}
-use Rattle.positions.specs.Keys.{future_key, line_key}
+use Rattle.positions.specs.Keys.{future_key, is_future_key, line_key, series_of_key, account_of_key}
 use Rattle.ledger.specs.Calls.{Trade, Call, Pricing, admit, list, trade, close, mark, delta, enter, exercise, settle}
-use Rattle.ledger.specs.Numbers.{key_of, is_future_key, all_series, series_of_key, account_of_key}
+use Rattle.ledger.specs.Numbers.{key_of, all_series}
 use Rattle.ledger.specs.Rows.{present}
 use Rattle.ledger.specs.Book.{Book, delta_at, weight, delta_of}
 use Rattle.ledger.specs.Post.{post}
@@ -58,42 +59,7 @@ stays : (f a : ℕ) (i j : Journal) → exposure j a ≡ exposure i a → Limite
 stays f a i j e = rw e (omega arith)
 
 trade_within : (b : Book) (j : Journal) (t : Trade) (p : Pricing) (a : ℕ) → a < 65536 → TradePassed b t (post b (trade t) p) → Kept b j → Limited b.family a j (on (trade t) p j)
-trade_within b j t p a l π κ = ways (eqb a t.buyer) (eqb a t.seller) refl refl
-  where
-    so : within b (post b (trade t) p) a ≡ true → Limited b.family a j (on (trade t) p j)
-    so h =
-        rw (← (delta_is (post b (trade t) p) (on (trade t) p j) a l (by_call b j (trade t) p π κ)), ← (delta_is b j a l κ))
-        (leb-true _ _ h)
-
-    ways : (x y : Bool) → eqb a t.buyer ≡ x → eqb a t.seller ≡ y → Limited b.family a j (on (trade t) p j)
-    ways true y ex ey = so (subst (λ (i : ℕ). within b (post b (trade t) p) i ≡ true) (sym (eqb-true a t.buyer ex)) π.buyer_within)
-    ways false true ex ey = so (subst (λ (i : ℕ). within b (post b (trade t) p) i ≡ true) (sym (eqb-true a t.seller ey)) π.seller_within)
-    ways false false ex ey = stays b.family a j (on (trade t) p j) (same_sum (on (trade t) p j) j a (λ s. rw (ex, ey) (same s (eqb s (key_of t.series)))))
-      where
-        same : (s : ℕ) (z : Bool) → weight (units (cond z (position_in a s j) (position_in a s j))) (delta_in j s) ≡ weight (units (position_in a s j)) (delta_in j s)
-        same s true = refl
-        same s false = refl
+trade_within b j t p a l π κ = grind (arith, common_steps, by_call, delta_is, same_sum)
 
 pub quiet_within : (b : Book) (j : Journal) (c : Call) (p : Pricing) (a : ℕ) → a < 65536 → Quiet c → Passed b c (post b c p) → Kept b j → Limited b.family a j (on c p j)
-quiet_within b j (admit d h) p a l q π κ = stays b.family a j (on (admit d h) p j) (same_sum (on (admit d h) p j) j a (λ s. refl))
-quiet_within b j (list x v) p a l q π κ = stays b.family a j (on (list x v) p j) (same_sum (on (list x v) p j) j a (λ s. new s (eqb s (key_of x)) refl))
-  where
-    new : (s : ℕ) (c : Bool) → eqb s (key_of x) ≡ c → weight (units (position_in a s j)) (cond (is_future_key s) (pos 10000) (cond c v (given_in j s))) ≡ weight (units (position_in a s j)) (delta_in j s)
-    new s true i = rw (κ.absent a s l (ap (present b.series) (eqb-true s (key_of x) i) ∙ π.fresh)) (zero_weight _ ∙ sym (zero_weight _))
-    new s false i = refl
-quiet_within b j (trade t) p a l q π κ = trade_within b j t p a l π κ
-quiet_within b j (close x d k) p a l q π κ = stays b.family a j (on (close x d k) p j) (same_sum (on (close x d k) p j) j a (λ s. ap (λ (y : ℤ). weight y (delta_in j s)) (ways (eqb s (key_of x) && eqb a d) (position_in a s j))))
-  where
-    ways : (c : Bool) (y : Position) → units (cond c (closed k y) y) ≡ units y
-    ways true y = closed_units k y
-    ways false y = refl
-quiet_within b j (mark m x) p a l q π κ = stays b.family a j (on (mark m x) p j) (same_sum (on (mark m x) p j) j a (λ s. ap (weight (units (position_in a s j))) (ways s (is_future_key s) (eqb s (future_key m)) refl refl)))
-  where
-    ways : (s : ℕ) (f c : Bool) → is_future_key s ≡ f → eqb s (future_key m) ≡ c → cond f (pos 10000) (cond c (pos x) (given_in j s)) ≡ cond f (pos 10000) (given_in j s)
-    ways s true c g i = refl
-    ways s false true g i = absurd (true≢false (sym (future_is m) ∙ ap is_future_key (sym (eqb-true s (future_key m) i)) ∙ g))
-    ways s false false g i = refl
-quiet_within b j (delta x d) p a l q π κ = absurd q
-quiet_within b j (enter m f x) p a l q π κ = stays b.family a j (on (enter m f x) p j) (same_sum (on (enter m f x) p j) j a (λ s. refl))
-quiet_within b j (exercise x level) p a l q π κ = absurd q
-quiet_within b j (settle x) p a l q π κ = absurd q
+quiet_within b j c p a l q π κ = grind (arith, closed_units, eqb-true, future_is, on, same_sum, stays, trade_within, zero_weight)

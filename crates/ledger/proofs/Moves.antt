@@ -1,13 +1,13 @@
 -- The positions of a series that move to another one.
 use Rattle.std.proofs.Common.{◌≡◌, ℕ, suc, ◌<◌, Bool, true, false, cond, ◌&&◌, eqb, ltb, [], ◌∷◌, ℤ, pos, ◌+ℤ◌, Some, None, fold, unwrap_or, sym, refl, ap, ◌∙◌, arith}
+use Rattle.std.proofs.lemmas.Grind.{common_steps}
 use borrow.Author.Differences.{ints}
 use Rattle.std.proofs.lemmas.Bool.{eqb-true, ltb-true, true≢false}
 use Rattle.registers.specs.Rows.{Rows, Rising, lookup}
 use Rattle.registers.specs.Sums.{total_ℤ}
 use Rattle.positions.specs.declared.position.Position.{Position}
 use Rattle.positions.specs.Positions.{flat, units, is_flat}
-use Rattle.positions.specs.Keys.{line_key}
-use Rattle.ledger.specs.Numbers.{series_of_key, account_of_key}
+use Rattle.positions.specs.Keys.{line_key, series_of_key, account_of_key}
 use Rattle.ledger.specs.Rows.{at, revise, in_series, Each}
 use Rattle.ledger.specs.Post.{move_each}
 use Rattle.ledger.proofs.RowLaws.{at_below, rising_revise, each_revise}
@@ -16,11 +16,7 @@ use Rattle.ledger.proofs.PositionLaws.{series_of_key_lem, key_is, at_line, units
 -- ---- one more row
 pub rows_on : {B : Type 0} (g : B → ℕ × Position → B) (s : ℕ) (r : ℕ × Position) (rs : Rows Position) (b : B)
     → fold g b (in_series s (r ∷ rs)) ≡ fold g (cond (eqb (series_of_key r.0) s) (g b r) b) (in_series s rs)
-rows_on {B} g s r rs b = ways (eqb (series_of_key r.0) s)
-  where
-    ways : (c : Bool) → fold g b (cond c (r ∷ in_series s rs) (in_series s rs)) ≡ fold g (cond c (g b r) b) (in_series s rs)
-    ways true = refl
-    ways false = refl
+rows_on g s r rs b = grind arith
 
 module _ (s m : ℕ) (f : ℕ → Position → Position → Position) where
   abbrev one : Rows Position → ℕ × Position → Rows Position

@@ -1,18 +1,19 @@
 -- Calls that move no money: admit, list, close, delta and enter.
 use Rattle.std.proofs.Common.{◌≡◌, ℕ, ◌<◌, ◌≤◌, Bool, true, false, cond, ◌&&◌, eqb, ℤ, pos, ◌-ℤ◌, sym, refl, ap, ◌∙◌, subst, arith}
+use Rattle.std.proofs.lemmas.Grind.{common_steps}
 use lib.IntN.{+ℤ_idl}
 use borrow.Author.Differences.{ints}
 use Rattle.std.proofs.lemmas.Bool.{eqb-true, ne_eqb, true≢false, false≢true}
 use Rattle.terms.specs.declared.family.Family.{Family}
 use Rattle.positions.specs.declared.position.Position.{Position}
 use Rattle.positions.specs.Positions.{flat, units, closed, closable}
-use Rattle.positions.specs.Keys.{future_key, line_key}
+use Rattle.positions.specs.Keys.{future_key, is_future_key, line_key, series_of_key}
 use Rattle.ledger.specs.declared.rows.Account.{Account}
 use Rattle.ledger.specs.declared.rows.State.{State}
 use Rattle.ledger.specs.declared.rows.State.TheVariants.{Trading, Fixed, Done}
 use Rattle.ledger.specs.declared.rows.Terms.{Terms}
 use Rattle.ledger.specs.Calls.{Series, Pricing, admit, list, close, delta, enter}
-use Rattle.ledger.specs.Numbers.{account_kind_of, key_of, is_future_key, all_series, series_of_key}
+use Rattle.ledger.specs.Numbers.{account_kind_of, key_of, all_series}
 use Rattle.ledger.specs.Rows.{at, present, change}
 use Rattle.ledger.specs.Book.{Book, family_in, nobody, unlisted, terms_at, value_at, state_at, position_at, is_trading, is_done, final_of}
 use Rattle.ledger.specs.Post.{valued, stated, post}
@@ -26,12 +27,10 @@ use Rattle.ledger.proofs.Worth.{worth_then, moving, worth_mark}
 use Rattle.ledger.proofs.Kept.{Good, NoMinis, Kept, on, value_of, at_terms, done_back, final_back, idle_cash, idle_fees}
 
 kind_of_lem : (c : Bool) (p q : Account) → (cond c p q).kind ≡ cond c p.kind q.kind
-kind_of_lem true p q = refl
-kind_of_lem false p q = refl
+kind_of_lem c p q = grind arith
 
 same_cash : (c : Bool) (p q : Account) → (c ≡ true → p.cash ≡ q.cash) → (cond c p q).cash ≡ q.cash
-same_cash true p q h = h refl
-same_cash false p q h = refl
+same_cash c p q h = grind arith
 
 -- a value given to a series on which no worth depends
 unmoved : (f : Family) (a : ℕ) (now : ℕ → ℤ) (m : ℕ) (x : ℤ) (j : Journal) → moving a m j ≡ pos 0 → worth_then f a (λ s. cond (eqb s m) x (now s)) j ≡ worth_then f a now j
@@ -39,31 +38,7 @@ unmoved f a now m x j e = worth_mark f a now m x j ∙ rw (e, zero_amount f (x -
 
 pub admit_kept : (b : Book) (j : Journal) (c h : ℕ) (p : Pricing) → present b.accounts c ≡ false → Kept b j → Kept (post b (admit c h) p) (on (admit c h) p j)
 unfolding post
-admit_kept b j c h p e κ =
-    let new : Account = record { kind = account_kind_of h; cash = pos 0 } in
-    let fresh : at nobody b.accounts c ≡ nobody = at_absent nobody c b.accounts e in
-    record {
-      kinds = λ a. ap (λ (q : Account). q.kind) (at_change nobody (λ _. new) c a b.accounts) ∙ kind_of_lem (eqb a c) new (at nobody b.accounts a) ∙ ap (cond (eqb a c) (account_kind_of h)) (κ.kinds a);
-      values = κ.values;
-      finals = κ.finals;
-      account_order = rising_change nobody (λ _. new) c b.accounts κ.account_order;
-      series_order = κ.series_order;
-      position_order = κ.position_order;
-      rows = κ.rows;
-      counts = κ.counts;
-      unit = κ.unit;
-      level = κ.level;
-      options = λ a s f d. κ.options a s f d ∙ sym (+ℤ_idl (net a s j));
-      futures = λ a s f d. κ.futures a s f d ∙ sym (+ℤ_idl (moving a s j));
-      still = λ a s f. +ℤ_idl (moving a s j) ∙ κ.still a s f;
-      cash = λ a l. idle_cash _ (family_in b) a (given_in j) j
-          (ap (λ (q : Account). q.cash) (at_change nobody (λ _. new) c a b.accounts)
-          ∙ same_cash (eqb a c) new (at nobody b.accounts a) (λ q. sym (ap (λ (k : ℕ). (at nobody b.accounts k).cash) (eqb-true a c q) ∙ ap (λ (t : Account). t.cash) fresh))
-          ∙ κ.cash a l);
-      exchange = idle_fees _ j κ.exchange;
-      conserved = omega (arith, ints, κ.conserved, total-change cash_in nobody (λ _. new) c b.accounts refl, ap (λ (t : Account). t.cash) fresh);
-      absent = κ.absent;
-    }
+admit_kept b j c h p e κ = grind (arith, at_change, idle_cash, idle_fees, kind_of_lem, moving, rising_change, same_cash, total-change)
 
 pub list_kept : (b : Book) (j : Journal) (x : Series) (v : ℤ) (p : Pricing) → present b.series (key_of x) ≡ false → Kept b j → Kept (post b (list x v) p) (on (list x v) p j)
 unfolding post
@@ -177,42 +152,8 @@ delta_kept b j x d p e κ =
     }
 
 trading_open : (q : State) → is_trading q ≡ true → is_done q ≡ false
-trading_open Trading e = refl
-trading_open (Fixed x) e = refl
-trading_open Done e = absurd (false≢true e)
+trading_open q e = grind arith
 
 pub enter_kept : (b : Book) (j : Journal) (m f x : ℕ) (p : Pricing) → is_trading (state_at b (future_key m)) ≡ true → Kept b j → Kept (post b (enter m f x) p) (on (enter m f x) p j)
 unfolding post
-enter_kept b j m f x p e κ =
-    let n : ℕ = future_key m in
-    let g : Terms → Terms = stated (Fixed x) in
-    let back : (s : ℕ) → is_done (at unlisted (change unlisted g n b.series) s).state ≡ false → is_done (state_at b s) ≡ false = λ s. done_back g n s b.series (λ q. trading_open _ e) in
-    record {
-      kinds = κ.kinds;
-      values = λ s. ap (λ (t : Terms). t.value) (at_terms g n s b.series) ∙ value_of (eqb s n) (g (terms_at b n)) (terms_at b s) ∙ same s (eqb s n) refl ∙ κ.values s;
-      finals = λ s i t. final s i (eqb s n) refl t;
-      account_order = κ.account_order;
-      series_order = rising_change unlisted g n b.series κ.series_order;
-      position_order = κ.position_order;
-      rows = κ.rows;
-      counts = κ.counts;
-      unit = κ.unit;
-      level = κ.level;
-      options = λ a s i q. κ.options a s i (back s q) ∙ sym (+ℤ_idl (net a s j));
-      futures = λ a s i q. κ.futures a s i (back s q) ∙ sym (+ℤ_idl (moving a s j));
-      still = λ a s i. +ℤ_idl (moving a s j) ∙ κ.still a s i;
-      cash = λ a l. idle_cash _ (family_in b) a (given_in j) j (κ.cash a l);
-      exchange = idle_fees _ j κ.exchange;
-      conserved = κ.conserved;
-      absent = λ a s l q. κ.absent a s l (present_change unlisted g n s b.series q);
-    }
-  where
-    same : (s : ℕ) (c : Bool) → eqb s (future_key m) ≡ c → cond c (value_at b (future_key m)) (value_at b s) ≡ value_at b s
-    same s true q = ap (value_at b) (sym (eqb-true s (future_key m) q))
-    same s false q = refl
-
-    final : (s : ℕ) → is_future_key s ≡ true → (c : Bool) → eqb s (future_key m) ≡ c
-        → is_trading (at unlisted (change unlisted (stated (Fixed x)) (future_key m) b.series) s).state ≡ false
-        → final_of (at unlisted (change unlisted (stated (Fixed x)) (future_key m) b.series) s) ≡ cond c x (final_in j s)
-    final s i true q t = ap final_of (at_terms (stated (Fixed x)) (future_key m) s b.series ∙ ap (λ (c : Bool). cond c (stated (Fixed x) (terms_at b (future_key m))) (terms_at b s)) q)
-    final s i false q t = final_back (stated (Fixed x)) (future_key m) s b.series (final_in j s) q (κ.finals s i) t
+enter_kept b j m f x p e κ = grind (arith, at_terms, idle_cash, idle_fees, moving, present_change, rising_change, trading_open, value_of)

@@ -1,5 +1,6 @@
 -- Positions: what keeps or adds units, where there are no minis, their keys, and what moves from one series to another.
 use Rattle.std.proofs.Common.{◌≡◌, ℕ, ◌<◌, ◌≤◌, Bool, true, false, cond, not, ◌&&◌, eqb, [], ◌∷◌, ℤ, pos, negsuc, ◌+ℤ◌, ◌-ℤ◌, ◌*ℤ◌, neg_ℤ, nat_abs, sym, refl, ap, ◌∙◌, arith}
+use Rattle.std.proofs.lemmas.Grind.{common_steps}
 use borrow.Author.Differences.{ints}
 use Rattle.std.proofs.lemmas.Bool.Decides.{nat_tests}
 use Rattle.std.proofs.lemmas.Bool.{eqb-true, eqb-false, leb-true, true≢false}
@@ -12,9 +13,8 @@ use Rattle.terms.specs.declared.kinds.Size.{Size}
 use Rattle.terms.specs.declared.kinds.Size.TheVariants.{Full, Mini}
 use Rattle.positions.specs.declared.position.Position.{Position}
 use Rattle.positions.specs.Positions.{flat, units, added, less, opposed, settled, dealt, signed_like, closed, closable}
-use Rattle.positions.specs.Keys.{line_key}
+use Rattle.positions.specs.Keys.{line_key, series_of_key, account_of_key}
 use Rattle.ledger.specs.Calls.{Pricing}
-use Rattle.ledger.specs.Numbers.{series_of_key, account_of_key}
 use Rattle.ledger.specs.Rows.{at, revise, outside}
 use Rattle.ledger.specs.Charges.{bought_fees}
 use Rattle.ledger.specs.Post.{lots, assigned}
@@ -25,8 +25,8 @@ less_units : (k : ℤ) (p : Position) → units (less k p) ≡ units p
 less_units k p = omega (arith, ints)
 
 pub settled_units : (h : AccountKind) (p : Position) → units (settled h p) ≡ units p
-settled_units House p = less_units (opposed p.fulls p.minis) p
-settled_units Maker p = less_units (opposed p.fulls p.minis) p
+settled_units House p = grind (arith, common_steps)
+settled_units Maker p = grind (arith, common_steps)
 settled_units Client p = refl
 
 added_units : (z : Size) (n : ℤ) (p : Position) → units (added z n p) ≡ units p +ℤ lots z n
@@ -52,26 +52,20 @@ unfolding assigned
 assigned_none h p = refl
 
 pub lots_neg : (z : Size) (n : ℤ) → lots z (neg_ℤ n) ≡ neg_ℤ (lots z n)
-lots_neg Full n = omega (arith, ints)
-lots_neg Mini n = omega (arith, ints)
+lots_neg z n = grind arith
 
 -- ---- where there are no minis there never will be
 opposed_none : (f : ℤ) → opposed f (pos 0) ≡ pos 0
-opposed_none (pos f) = refl
-opposed_none (negsuc f) = grind arith
+opposed_none f = grind arith
 
 offset_minis : (f m : ℤ) → m ≡ pos 0 → m +ℤ pos 5 *ℤ opposed f m ≡ pos 0
 offset_minis f m e = rw e (omega (arith, ints, opposed_none f))
 
 pub dealt_minis : (h : AccountKind) (n : ℤ) (p : Position) → p.minis ≡ pos 0 → (dealt h Full n p).minis ≡ pos 0
-dealt_minis House n p e = offset_minis (p.fulls +ℤ n) p.minis e
-dealt_minis Maker n p e = offset_minis (p.fulls +ℤ n) p.minis e
-dealt_minis Client n p e = e
+dealt_minis h n p e = grind arith
 
 pub closable_minis : (k : ℕ) (p : Position) → 1 ≤ k → p.minis ≡ pos 0 → closable k p ≡ true → ⊥
-closable_minis k p h e c =
-    let z : nat_abs (opposed p.fulls p.minis) ≡ 0 = ap nat_abs (ap (opposed p.fulls) e ∙ opposed_none p.fulls) in
-    omega (arith, leb-true k (nat_abs (opposed p.fulls p.minis)) c)
+closable_minis k p h e c = grind arith
 
 pub bought_fees_none : (p : Pricing) (a : ℕ) (h : AccountKind) (k : SeriesKind) → bought_fees p a h k flat ≡ pos 0
 unfolding bought_fees
@@ -94,21 +88,17 @@ key_is k s a h = grind (arith, nat_tests)
 -- ---- one position changed
 pub at_line : (f : Position → Position) (s c n a : ℕ) (ps : Rows Position) → a < 65536 → c < 65536 → Rising 0 ps
     → at flat (revise f (line_key s c) ps) (line_key n a) ≡ cond (eqb n s && eqb a c) (f (at flat ps (line_key n a))) (at flat ps (line_key n a))
-at_line f s c n a ps h g o =
-    at_revise f (line_key s c) ps (line_key n a) o
-    ∙ ap (λ (b : Bool). cond b (f (at flat ps (line_key n a))) (at flat ps (line_key n a))) (key_tells n a s c h g)
+at_line f s c n a ps h g o = grind (arith, at_revise)
 
 -- the units of a row, where it is in the series s
 abbrev pub units_in : ℕ → ℕ → Position → ℤ
 units_in s k p = cond (eqb (series_of_key k) s) (units p) (pos 0)
 
 if_units : (c : Bool) (x y d : ℤ) → x ≡ y +ℤ d → cond c x (pos 0) -ℤ cond c y (pos 0) ≡ cond c d (pos 0)
-if_units true x y d e = omega (arith, ints)
-if_units false x y d e = refl
+if_units c x y d e = grind arith
 
 flat_units : (c : Bool) → cond c (units flat) (pos 0) ≡ pos 0
-flat_units true = refl
-flat_units false = refl
+flat_units c = grind arith
 
 pub total_line : (f : Position → Position) (d : ℤ) (k n : ℕ) (ps : Rows Position) → ((p : Position) → units (f p) ≡ units p +ℤ d)
     → total_ℤ (units_in n) (revise f k ps) ≡ total_ℤ (units_in n) ps +ℤ cond (eqb (series_of_key k) n) d (pos 0)

@@ -1,5 +1,6 @@
 -- Rows: what a change does to what stands under a key, to a sum and to the order; the rows of one series; sums over numbers.
 use Rattle.std.proofs.Common.{◌≡◌, ℕ, zero, suc, ◌<◌, ◌≤◌, Bool, true, false, cond, not, eqb, ltb, [], ◌∷◌, ◌++◌, length, ℤ, pos, ◌+ℤ◌, ◌-ℤ◌, neg_ℤ, nat_abs, is_some, Some, None, filter, Option, unwrap_or, sym, refl, ap, ◌∙◌, subst, zero-le, arith}
+use Rattle.std.proofs.lemmas.Grind.{common_steps}
 use mathlib.Core.Path.{fun_ext}
 use borrow.Author.Differences.{ints}
 use Rattle.std.proofs.lemmas.Bool.Decides.{nat_tests}
@@ -13,14 +14,12 @@ use Rattle.registers.proofs.Stretches.{kept, rising_others, lookup-others, lengt
 use Rattle.registers.proofs.Sums.{total_ℤ-put, total_ℤ-without}
 use Rattle.positions.specs.declared.position.Position.{Position}
 use Rattle.positions.specs.Positions.{flat, is_flat}
-use Rattle.positions.specs.Keys.{line_key}
-use Rattle.ledger.specs.Numbers.{series_of_key}
+use Rattle.positions.specs.Keys.{line_key, series_of_key}
 use Rattle.ledger.specs.Rows.{at, present, change, revise, in_series, outside, Each, sum_below}
 
 -- ---- what stands under a key
 absent_or : {V : Type 0} (d : V) (o : Option V) → is_some o ≡ false → unwrap_or o d ≡ d
-absent_or d None e = refl
-absent_or d (Some x) e = absurd (true≢false e)
+absent_or d o e = grind arith
 
 pub at_absent : {V : Type 0} (d : V) (k : ℕ) (rs : Rows V) → present rs k ≡ false → at d rs k ≡ d
 at_absent d k rs e = absent_or d (lookup rs k) e
@@ -29,17 +28,12 @@ pub at_below : {V : Type 0} (d : V) (k lo : ℕ) (rs : Rows V) → Rising lo rs 
 at_below {V} d k lo rs o h = ap (λ (x : Option V). unwrap_or x d) (lookup-below k lo rs o h)
 
 share_at : {V : Type 0} (w : ℕ → V → ℤ) (d : V) (k : ℕ) (o : Option V) → w k d ≡ pos 0 → share_ℤ w k o ≡ w k (unwrap_or o d)
-share_at w d k None z = sym z
-share_at w d k (Some x) z = refl
+share_at w d k o z = grind arith
 
 -- ---- one row changed
 pub at_change : {V : Type 0} (d : V) (f : V → V) (k j : ℕ) (rs : Rows V) → at d (change d f k rs) j ≡ cond (eqb j k) (f (at d rs j)) (at d rs j)
 unfolding change
-at_change {V} d f k j rs = ways (eqb j k) refl
-  where
-    ways : (c : Bool) → eqb j k ≡ c → at d (put k (f (at d rs k)) rs) j ≡ cond c (f (at d rs j)) (at d rs j)
-    ways true e = rw (eqb-true j k e) (ap (λ (x : Option V). unwrap_or x d) (lookup-put_same k (f (at d rs k)) rs))
-    ways false e = ap (λ (x : Option V). unwrap_or x d) (lookup-put_other k j (f (at d rs k)) rs (eqb-false j k e))
+at_change d f k j rs = grind (arith, lookup-put_other, lookup-put_same)
 
 pub total-change : {V : Type 0} (w : ℕ → V → ℤ) (d : V) (f : V → V) (k : ℕ) (rs : Rows V) → w k d ≡ pos 0
     → total_ℤ w (change d f k rs) ≡ total_ℤ w rs +ℤ (w k (f (at d rs k)) -ℤ w k (at d rs k))
@@ -51,11 +45,7 @@ unfolding change
 rising_change d f k rs o = rising_put k 0 (f (at d rs k)) rs zero-le o
 
 some_put : {V : Type 0} (k s : ℕ) (v : V) (rs : Rows V) → present rs s ≡ true → present (put k v rs) s ≡ true
-some_put {V} k s v rs h = ways (eqb s k) refl
-  where
-    ways : (c : Bool) → eqb s k ≡ c → present (put k v rs) s ≡ true
-    ways true e = rw (eqb-true s k e) (ap is_some (lookup-put_same k v rs))
-    ways false e = ap is_some (lookup-put_other k s v rs (eqb-false s k e)) ∙ h
+some_put k s v rs h = grind (arith, lookup-put_other, lookup-put_same)
 
 -- a change only adds rows
 pub present_keep : {V : Type 0} (d : V) (f : V → V) (k s : ℕ) (rs : Rows V) → present rs s ≡ true → present (change d f k rs) s ≡ true
@@ -63,22 +53,13 @@ unfolding change
 present_keep d f k s rs h = some_put k s (f (at d rs k)) rs h
 
 pub present_change : {V : Type 0} (d : V) (f : V → V) (k s : ℕ) (rs : Rows V) → present (change d f k rs) s ≡ false → present rs s ≡ false
-present_change d f k s rs e = ways (present rs s) refl
-  where
-    ways : (c : Bool) → present rs s ≡ c → c ≡ false
-    ways true h = absurd (true≢false (sym (present_keep d f k s rs h) ∙ e))
-    ways false h = refl
+present_change d f k s rs e = grind (arith, present_keep)
 
 -- ---- each row
 pub each_at : {V : Type 0} (P : ℕ → V → Type 0) (d : V) (k : ℕ) (rs : Rows V) → P k d → Each P rs → P k (at d rs k)
 unfolding lookup
 each_at P d k [] h o = h
-each_at {V} P d k (r ∷ rs) h o = ways (ltb k r.0) (eqb k r.0) (λ e. sym (eqb-true k r.0 e)) (each_at P d k rs h o.1)
-  where
-    ways : (b c : Bool) → (c ≡ true → r.0 ≡ k) → P k (at d rs k) → P k (unwrap_or (cond b None (cond c (Some r.1) (lookup rs k))) d)
-    ways true c e ih = h
-    ways false true e ih = subst (λ (n : ℕ). P n r.1) (e refl) o.0
-    ways false false e ih = ih
+each_at P d k (r ∷ rs) h o = grind (arith, each_at P d k rs h o.1)
 
 pub each_more : {V : Type 0} (P Q : ℕ → V → Type 0) (rs : Rows V) → ((k : ℕ) (v : V) → P k v → Q k v) → Each P rs → Each Q rs
 each_more P Q [] h o = tt
@@ -87,60 +68,32 @@ each_more P Q (r ∷ rs) h o = (h r.0 r.1 o.0, each_more P Q rs h o.1)
 each_put : {V : Type 0} (P : ℕ → V → Type 0) (k : ℕ) (v : V) (rs : Rows V) → P k v → Each P rs → Each P (put k v rs)
 unfolding put
 each_put P k v [] h o = (h, tt)
-each_put P k v (r ∷ rs) h o = ways (ltb k r.0) (eqb k r.0) (each_put P k v rs h o.1)
-  where
-    ways : (b c : Bool) → Each P (put k v rs) → Each P (cond b ((k, v) ∷ r ∷ rs) (cond c ((k, v) ∷ rs) (r ∷ put k v rs)))
-    ways true c ih = (h, o)
-    ways false true ih = (h, o.1)
-    ways false false ih = (o.0, ih)
+each_put P k v (r ∷ rs) h o = grind (arith, each_put P k v rs h o.1)
 
 each_without : {V : Type 0} (P : ℕ → V → Type 0) (k : ℕ) (rs : Rows V) → Each P rs → Each P (without k rs)
 unfolding without
 each_without P k [] o = tt
-each_without P k (r ∷ rs) o = ways (ltb k r.0) (eqb k r.0) (each_without P k rs o.1)
-  where
-    ways : (b c : Bool) → Each P (without k rs) → Each P (cond b (r ∷ rs) (cond c rs (r ∷ without k rs)))
-    ways true c ih = o
-    ways false true ih = o.1
-    ways false false ih = (o.0, ih)
+each_without P k (r ∷ rs) o = grind (arith, each_without P k rs o.1)
 
 pub each_kept : {V : Type 0} (P : ℕ → V → Type 0) (t : ℕ × V → Bool) (rs : Rows V) → Each P rs → Each P (filter t rs)
 each_kept P t [] o = tt
-each_kept P t (r ∷ rs) o = ways (t r) (each_kept P t rs o.1)
-  where
-    ways : (c : Bool) → Each P (filter t rs) → Each P (cond c (r ∷ filter t rs) (filter t rs))
-    ways true h = (o.0, h)
-    ways false h = h
+each_kept P t (r ∷ rs) o = grind (arith, each_kept P t rs o.1)
 
 -- ---- one position changed: a flat one has no row
 zero_is : (n : ℤ) → eqb (nat_abs n) 0 ≡ true → n ≡ pos 0
 zero_is n e = let h = eqb-true (nat_abs n) 0 e in omega (arith, ints)
 
 pub flat_is : (p : Position) → is_flat p ≡ true → p ≡ flat
-flat_is p e =
-    let h = and_parts (eqb (nat_abs p.fulls) 0) (eqb (nat_abs p.minis) 0) e in
-    λ i. record { fulls = zero_is p.fulls h.0 i; minis = zero_is p.minis h.1 i }
+flat_is p e = grind arith
 
 module _ (f : Position → Position) (k : ℕ) (ps : Rows Position) where
   pub at_revise : (j : ℕ) → Rising 0 ps → at flat (revise f k ps) j ≡ cond (eqb j k) (f (at flat ps j)) (at flat ps j)
   unfolding revise
-  at_revise j o = ways (is_flat (f (at flat ps k))) (eqb j k) refl refl
-    where
-      ways : (x c : Bool) → is_flat (f (at flat ps k)) ≡ x → eqb j k ≡ c
-          → at flat (cond x (without k ps) (put k (f (at flat ps k)) ps)) j ≡ cond c (f (at flat ps j)) (at flat ps j)
-      ways true true ex ec =
-          rw (eqb-true j k ec) (ap (λ (y : Option Position). unwrap_or y flat) (lookup-without_same k 0 ps o) ∙ sym (flat_is (f (at flat ps k)) ex))
-      ways true false ex ec = ap (λ (y : Option Position). unwrap_or y flat) (lookup-without_other k j 0 ps o (eqb-false j k ec))
-      ways false true ex ec = rw (eqb-true j k ec) (ap (λ (y : Option Position). unwrap_or y flat) (lookup-put_same k (f (at flat ps k)) ps))
-      ways false false ex ec = ap (λ (y : Option Position). unwrap_or y flat) (lookup-put_other k j (f (at flat ps k)) ps (eqb-false j k ec))
+  at_revise j o = grind (arith, lookup-put_other, lookup-put_same, lookup-without_other, lookup-without_same)
 
   pub rising_revise : Rising 0 ps → Rising 0 (revise f k ps)
   unfolding revise
-  rising_revise o = ways (is_flat (f (at flat ps k)))
-    where
-      ways : (x : Bool) → Rising 0 (cond x (without k ps) (put k (f (at flat ps k)) ps))
-      ways true = rising_without k 0 ps o
-      ways false = rising_put k 0 (f (at flat ps k)) ps zero-le o
+  rising_revise o = grind (arith, rising_put, rising_without)
 
   pub total-revise : (w : ℕ → Position → ℤ) → w k flat ≡ pos 0 → total_ℤ w (revise f k ps) ≡ total_ℤ w ps +ℤ (w k (f (at flat ps k)) -ℤ w k (at flat ps k))
   unfolding revise
@@ -152,11 +105,7 @@ module _ (f : Position → Position) (k : ℕ) (ps : Rows Position) where
 
   pub each_revise : (P : ℕ → Position → Type 0) → Each P ps → (is_flat (f (at flat ps k)) ≡ false → P k (f (at flat ps k))) → Each P (revise f k ps)
   unfolding revise
-  each_revise P o h = ways (is_flat (f (at flat ps k))) refl
-    where
-      ways : (x : Bool) → is_flat (f (at flat ps k)) ≡ x → Each P (cond x (without k ps) (put k (f (at flat ps k)) ps))
-      ways true e = each_without P k ps o
-      ways false e = each_put P k (f (at flat ps k)) ps (h e) o
+  each_revise P o h = grind (arith, each_put, each_without)
 
 -- ---- the positions in a series are a stretch of neighbours
 abbrev pub first_key : ℕ → ℕ
@@ -166,9 +115,7 @@ inside_series : (s k : ℕ) → inside (first_key s) (first_key (suc s)) k ≡ e
 inside_series s k = grind (arith, nat_tests)
 
 pub in_series_lem : (s : ℕ) (ps : Rows Position) → Rising 0 ps → stretch (first_key s) (first_key (suc s)) ps ≡ in_series s ps
-in_series_lem s ps o =
-    (kept (first_key s) (first_key (suc s)) 0 ps o).0
-    ∙ ap (λ (t : ℕ → Bool). filter (λ (r : ℕ × Position). t r.0) ps) (fun_ext (inside_series s))
+in_series_lem s ps o = grind (arith, kept)
 
 pub out_of_series : (s : ℕ) (ps : Rows Position) → Rising 0 ps → front (first_key s) ps ++ rest (first_key s) (first_key (suc s)) ps ≡ outside s ps
 out_of_series s ps o =
@@ -195,22 +142,16 @@ length-outside s ps o = rw (← (out_of_series s ps o)) (let h = length-others (
 pub total_kept : {V : Type 0} (w : ℕ → V → ℤ) (t : ℕ → Bool) (rs : Rows V) → total_ℤ w (filter (λ r. t r.0) rs) ≡ total_ℤ (λ k v. cond (t k) (w k v) (pos 0)) rs
 unfolding total_ℤ
 total_kept w t [] = refl
-total_kept {V} w t (r ∷ rs) = ways (t r.0) (total_kept w t rs)
-  where
-    ways : (c : Bool) → total_ℤ w (filter (λ r. t r.0) rs) ≡ total_ℤ (λ k v. cond (t k) (w k v) (pos 0)) rs
-        → total_ℤ w (cond c (r ∷ filter (λ r. t r.0) rs) (filter (λ r. t r.0) rs)) ≡ cond c (w r.0 r.1) (pos 0) +ℤ total_ℤ (λ k v. cond (t k) (w k v) (pos 0)) rs
-    ways true h = omega (arith, ints, h)
-    ways false h = omega (arith, ints, h)
+total_kept w t (r ∷ rs) = grind (arith, total_kept w t rs)
 
 pub total_same : {V : Type 0} (v w : ℕ → V → ℤ) (rs : Rows V) → ((k : ℕ) (x : V) → v k x ≡ w k x) → total_ℤ v rs ≡ total_ℤ w rs
 unfolding total_ℤ
-total_same v w [] e = refl
-total_same v w (r ∷ rs) e = omega (arith, ints, e r.0 r.1, total_same v w rs e)
+total_same v w rs e = grind arith
 
 pub total_each : {V : Type 0} (P : ℕ → V → Type 0) (v w : ℕ → V → ℤ) (rs : Rows V) → ((k : ℕ) (x : V) → P k x → v k x ≡ w k x) → Each P rs → total_ℤ v rs ≡ total_ℤ w rs
 unfolding total_ℤ
 total_each P v w [] e o = refl
-total_each P v w (r ∷ rs) e o = omega (arith, ints, e r.0 r.1 o.0, total_each P v w rs e o.1)
+total_each P v w (r ∷ rs) e o = grind (arith, total_each P v w rs e o.1)
 
 pub total_less : {V : Type 0} (v w : ℕ → V → ℤ) (rs : Rows V) → total_ℤ (λ k x. v k x -ℤ w k x) rs ≡ total_ℤ v rs -ℤ total_ℤ w rs
 unfolding total_ℤ
@@ -229,27 +170,18 @@ under w k j x = cond (eqb k j) (w x) (pos 0)
 under_none : {V : Type 0} (w : V → ℤ) (k lo : ℕ) (rs : Rows V) → Rising lo rs → k < lo → total_ℤ (under w k) rs ≡ pos 0
 unfolding total_ℤ
 under_none w k lo [] o h = refl
-under_none w k lo (r ∷ rs) o h =
-    let ih : total_ℤ (under w k) rs ≡ pos 0 = under_none w k (suc r.0) rs o.1 (omega arith) in
-    rw (ne_eqb k r.0 (λ e. omega arith)) (omega (arith, ints))
+under_none w k lo (r ∷ rs) o h = grind (arith, under_none w k (suc r.0) rs o.1 (omega arith))
 
 pub under_at : {V : Type 0} (w : V → ℤ) (d : V) (k lo : ℕ) (rs : Rows V) → w d ≡ pos 0 → Rising lo rs → total_ℤ (under w k) rs ≡ w (at d rs k)
 unfolding total_ℤ lookup
 under_at w d k lo [] z o = sym z
-under_at {V} w d k lo (r ∷ rs) z o = ways (ltb k r.0) (eqb k r.0) refl refl (under_at w d k (suc r.0) rs z o.1)
-  where
-    ways : (b c : Bool) → ltb k r.0 ≡ b → eqb k r.0 ≡ c → total_ℤ (under w k) rs ≡ w (at d rs k)
-        → cond c (w r.1) (pos 0) +ℤ total_ℤ (under w k) rs ≡ w (unwrap_or (cond b None (cond c (Some r.1) (lookup rs k))) d)
-    ways true true p q ih = absurd (omega (arith, ltb-true k r.0 p, eqb-true k r.0 q))
-    ways true false p q ih = omega (arith, ints, under_none w k (suc r.0) rs o.1 (omega (arith, ltb-true k r.0 p)))
-    ways false true p q ih = omega (arith, ints, under_none w k (suc r.0) rs o.1 (omega (arith, eqb-true k r.0 q)))
-    ways false false p q ih = omega (arith, ints)
+under_at w d k lo (r ∷ rs) z o = grind (arith, under_none, under_at w d k (suc r.0) rs z o.1)
 
 -- ---- sums below a number
 pub below_same : (n : ℕ) (f g : ℕ → ℤ) → ((i : ℕ) → i < n → f i ≡ g i) → sum_below n f ≡ sum_below n g
 unfolding sum_below
 below_same zero f g e = refl
-below_same (suc n) f g e = omega (arith, ints, e n (omega arith), below_same n f g (λ i h. e i (omega arith)))
+below_same (suc n) f g e = grind (arith, common_steps, below_same n f g (λ i h. e i (omega arith)))
 
 pub below_zero : (n : ℕ) → sum_below n (λ _. pos 0) ≡ pos 0
 unfolding sum_below
@@ -264,16 +196,12 @@ below_+ (suc n) f g = omega (arith, ints, below_+ n f g)
 below_miss : (n c : ℕ) (x : ℤ) → n ≤ c → sum_below n (λ i. cond (eqb i c) x (pos 0)) ≡ pos 0
 unfolding sum_below
 below_miss zero c x h = refl
-below_miss (suc n) c x h = rw (ne_eqb n c (λ e. omega arith)) (omega (arith, ints, below_miss n c x (omega arith)))
+below_miss (suc n) c x h = grind (arith, below_miss n c x (omega arith))
 
 pub below_one : (n c : ℕ) (x : ℤ) → c < n → sum_below n (λ i. cond (eqb i c) x (pos 0)) ≡ x
 unfolding sum_below
-below_one zero c x h = absurd (omega arith)
-below_one (suc n) c x h = ways (eqb n c) refl (below_one n c x)
-  where
-    ways : (b : Bool) → eqb n c ≡ b → (c < n → sum_below n (λ i. cond (eqb i c) x (pos 0)) ≡ x) → cond b x (pos 0) +ℤ sum_below n (λ i. cond (eqb i c) x (pos 0)) ≡ x
-    ways true e ih = omega (arith, ints, below_miss n c x (omega (arith, eqb-true n c e)))
-    ways false e ih = omega (arith, ints, ih (omega (arith, eqb-false n c e)))
+below_one zero c x h = grind (arith, below_miss)
+below_one (suc n) c x h = grind (arith, below_miss, below_one n c x)
 
 -- a sum over rows, by what a number of each key is
 pub total-below : {V : Type 0} (n : ℕ) (g : ℕ → ℕ) (w : ℕ → V → ℤ) (rs : Rows V) → Each (λ k v. g k < n) rs

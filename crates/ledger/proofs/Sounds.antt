@@ -11,13 +11,13 @@ use Rattle.terms.specs.declared.kinds.SeriesKind.TheVariants as kinds
 use Rattle.positions.specs.declared.position.Position.{Position}
 use Rattle.positions.specs.Positions.{position, flat, units, is_flat, less, opposed, signed_like, closed, closable, count_in, in_range}
 use Rattle.positions.specs.Money.{amount, balance_in}
-use Rattle.positions.specs.Keys.{future_key, line_key}
+use Rattle.positions.specs.Keys.{future_key, line_key, series_of_key, account_of_key}
 use Rattle.ledger.specs.declared.rows.Account.{Account}
 use Rattle.ledger.specs.declared.rows.State.{State}
 use Rattle.ledger.specs.declared.rows.State.TheVariants.{Trading, Fixed, Done}
 use Rattle.ledger.specs.declared.rows.Terms.{Terms}
 use Rattle.ledger.specs.Calls.{Series, Trade, Call, Pricing, admit, list, trade, close, mark, delta, enter, exercise, settle}
-use Rattle.ledger.specs.Numbers.{account_kind_of, series_kind, is_future, delta_range, first_in, key_of, future_of_key, series_of_key, account_of_key}
+use Rattle.ledger.specs.Numbers.{account_kind_of, series_kind, is_future, delta_range, first_in, key_of, future_of_key}
 use Rattle.ledger.specs.Rows.{at, present, change, revise, in_series, outside, Each}
 use Rattle.ledger.specs.Book.{Book, book, family_in, nobody, unlisted, kind_at, cash_at, terms_at, value_at, state_at, position_at, is_done, final_of}
 use Rattle.ledger.specs.Charges.{payoff_at, lapses_at, bought_fees}

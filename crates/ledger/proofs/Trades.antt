@@ -1,5 +1,6 @@
 -- A trade.
 use Rattle.std.proofs.Common.{◌≡◌, ℕ, ◌<◌, Bool, true, false, cond, ◌&&◌, eqb, ℤ, pos, ◌+ℤ◌, ◌-ℤ◌, neg_ℤ, sym, refl, ap, ◌∙◌, subst, arith}
+use Rattle.std.proofs.lemmas.Grind.{common_steps}
 use borrow.Author.Differences.{ints}
 use Rattle.std.proofs.lemmas.Bool.{eqb-true, true≢false}
 use Rattle.registers.specs.Rows.{Rows, Rising}
@@ -8,9 +9,9 @@ use Rattle.terms.specs.declared.kinds.AccountKind.{AccountKind}
 use Rattle.terms.specs.declared.kinds.Size.{Size}
 use Rattle.positions.specs.declared.position.Position.{Position}
 use Rattle.positions.specs.Positions.{flat, units, dealt}
-use Rattle.positions.specs.Keys.{line_key}
+use Rattle.positions.specs.Keys.{is_future_key, line_key, series_of_key}
 use Rattle.ledger.specs.Calls.{Trade, Pricing, trade}
-use Rattle.ledger.specs.Numbers.{kind_of, size_of, series_kind, is_future, on_future, key_of, is_future_key, kind_of_key, all_series, series_of_key}
+use Rattle.ledger.specs.Numbers.{kind_of, size_of, series_kind, is_future, on_future, key_of, kind_of_key, all_series}
 use Rattle.ledger.specs.Rows.{at, present, revise, Each, sum_below}
 use Rattle.ledger.specs.Book.{Book, family_in, kind_at, cash_at}
 use Rattle.ledger.specs.Charges.{trade_side, fee_of}
@@ -35,11 +36,7 @@ module _ (b : Book) (j : Journal) (t : Trade) (p : Pricing) (after : Book) (δ :
   lined : (h k i : AccountKind) (x y z : Bool) (l : Position) → (y ≡ true → k ≡ h) → (z ≡ true → i ≡ h)
       → cond (x && y) (dealt k (size_of t.size) (neg_ℤ q) (cond (x && z) (dealt i (size_of t.size) q l) l)) (cond (x && z) (dealt i (size_of t.size) q l) l)
       ≡ cond x (dealt_if y h (size_of t.size) (neg_ℤ q) (dealt_if z h (size_of t.size) q l)) l
-  lined h k i true true true l e f = rw (e refl, f refl)
-  lined h k i true true false l e f = rw (e refl)
-  lined h k i true false true l e f = rw (f refl)
-  lined h k i true false false l e f = refl
-  lined h k i false y z l e f = refl
+  lined h k i x y z l e f = grind arith
 
   first : Rows Position
   first = revise (dealt (kind_at b t.buyer) (size_of t.size) q) (line_key n t.buyer) b.positions
@@ -54,17 +51,10 @@ module _ (b : Book) (j : Journal) (t : Trade) (p : Pricing) (after : Book) (δ :
   line_is : (a s : ℕ) → a < 65536 → at flat second (line_key s a)
       ≡ cond (eqb s n) (dealt_if (eqb a t.seller) (kind_in j a) (size_of t.size) (neg_ℤ q) (dealt_if (eqb a t.buyer) (kind_in j a) (size_of t.size) q (position_in a s j))) (position_in a s j)
   unfolding second first
-  line_is a s l =
-      at_line (dealt (kind_at b t.seller) (size_of t.size) (neg_ℤ q)) n t.seller s a first l δ.seller first_order
-      ∙ ap (λ (y : Position). cond (eqb s n && eqb a t.seller) (dealt (kind_at b t.seller) (size_of t.size) (neg_ℤ q) y) y)
-      (at_line (dealt (kind_at b t.buyer) (size_of t.size) q) n t.buyer s a b.positions l δ.buyer κ.position_order
-      ∙ ap (λ (y : Position). cond (eqb s n && eqb a t.buyer) (dealt (kind_at b t.buyer) (size_of t.size) q y) y) (κ.counts a s l))
-      ∙ lined (kind_in j a) (kind_at b t.seller) (kind_at b t.buyer) (eqb s n) (eqb a t.seller) (eqb a t.buyer) (position_in a s j)
-      (λ e. κ.kinds t.seller ∙ ap (kind_in j) (sym (eqb-true a t.seller e))) (λ e. κ.kinds t.buyer ∙ ap (kind_in j) (sym (eqb-true a t.buyer e)))
+  line_is a s l = grind (arith, at_line, eqb-true, first, first_order, lined)
 
   if_dealt : (c : Bool) (h : AccountKind) (m : ℤ) (l : Position) → units (dealt_if c h (size_of t.size) m l) ≡ units l +ℤ cond c (lots (size_of t.size) m) (pos 0)
-  if_dealt true h m l = dealt_units h (size_of t.size) m l
-  if_dealt false h m l = omega (arith, ints)
+  if_dealt c h m l = grind (arith, common_steps, dealt_units)
 
   units_are : (h : AccountKind) (x y z : Bool) (l : Position) (v : ℤ) → units l ≡ v
       → units (cond x (dealt_if y h (size_of t.size) (neg_ℤ q) (dealt_if z h (size_of t.size) q l)) l) ≡ cond x (cond z (traded t) (pos 0) -ℤ cond y (traded t) (pos 0)) (pos 0) +ℤ v
@@ -129,29 +119,13 @@ module _ (b : Book) (j : Journal) (t : Trade) (p : Pricing) (after : Book) (δ :
       )
 
   future_moves : (s : ℕ) (v c : ℤ) → is_future_key s ≡ true → cond (eqb s n) v (pos 0) ≡ cond (is_future (series_kind t.series)) (cond (eqb s n) v (pos 0)) (pos 0)
-  future_moves s v c e = ways (eqb s n) (is_future (series_kind t.series)) (λ i k. true≢false (sym e ∙ ap is_future_key (eqb-true s n i) ∙ key_is_future t.series δ.range ∙ k))
-    where
-      ways : (y z : Bool) → (y ≡ true → z ≡ false → ⊥) → cond y v (pos 0) ≡ cond z (cond y v (pos 0)) (pos 0)
-      ways true true h = refl
-      ways true false h = absurd (h refl refl)
-      ways false true h = refl
-      ways false false h = refl
+  future_moves s v c e = grind arith
 
   option_stays : (s : ℕ) (v : ℤ) → is_future_key s ≡ false → cond (is_future (series_kind t.series)) (cond (eqb s n) v (pos 0)) (pos 0) ≡ pos 0
-  option_stays s v e = ways (eqb s n) (is_future (series_kind t.series)) (λ i k. true≢false (sym k ∙ sym (key_is_future t.series δ.range) ∙ ap is_future_key (sym (eqb-true s n i)) ∙ e))
-    where
-      ways : (y z : Bool) → (y ≡ true → z ≡ true → ⊥) → cond z (cond y v (pos 0)) (pos 0) ≡ pos 0
-      ways true true h = absurd (h refl refl)
-      ways true false h = refl
-      ways false true h = refl
-      ways false false h = refl
+  option_stays s v e = grind arith
 
   none_still : (s : ℕ) (l m : Position) → present b.series s ≡ false → m ≡ flat → cond (eqb s n) l m ≡ flat
-  none_still s l m h e = ways (eqb s n) refl
-    where
-      ways : (c : Bool) → eqb s n ≡ c → cond c l m ≡ flat
-      ways true i = absurd (true≢false (sym δ.there ∙ ap (present b.series) (sym (eqb-true s n i)) ∙ h))
-      ways false i = e
+  none_still s l m h e = grind arith
 
   pub trade_kept : Kept (post b (trade t) p) (on (trade t) p j)
   unfolding post first second x f g

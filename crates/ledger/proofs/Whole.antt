@@ -6,9 +6,9 @@ use Rattle.registers.specs.Rows.{lookup}
 use Rattle.registers.specs.Sums.{total_ℤ}
 use Rattle.terms.specs.declared.family.Family.{Family}
 use Rattle.positions.specs.Positions.{flat, units}
-use Rattle.positions.specs.Keys.{line_key}
+use Rattle.positions.specs.Keys.{line_key, series_of_key}
 use Rattle.ledger.specs.Calls.{Call, Pricing, Event, admit, list, trade, close, mark, delta, enter, exercise, settle}
-use Rattle.ledger.specs.Numbers.{family_of, series_kind, is_future, key_of, series_of_key}
+use Rattle.ledger.specs.Numbers.{family_of, series_kind, is_future, key_of}
 use Rattle.ledger.specs.Rows.{at}
 use Rattle.ledger.specs.Book.{Spaces, Book, opened, family_in}
 use Rattle.ledger.specs.Charges.{lapses_at}

@@ -1,5 +1,6 @@
 -- The formula's sums: trades cancel, and a move of a mark moves the worth by the units that depend on it.
 use Rattle.std.proofs.Common.{◌≡◌, ℕ, ◌*◌, Bool, true, false, cond, not, ◌&&◌, eqb, [], ◌∷◌, ℤ, pos, ◌+ℤ◌, ◌-ℤ◌, neg_ℤ, sym, refl, arith}
+use Rattle.std.proofs.lemmas.Grind.{common_steps}
 use borrow.Author.Differences.{ints}
 use Rattle.std.proofs.lemmas.Bool.Decides.{nat_tests}
 use Rattle.std.proofs.lemmas.Bool.{eqb-true}
@@ -103,11 +104,7 @@ trade_gain t f a now j = ways (is_future (series_kind t.series)) (eqb a t.buyer)
 
 -- ---- a move of a mark
 pub turned-amount : (f : Family) (k : SeriesKind) (n p : ℤ) → turned k (amount f n p) ≡ amount f (turned k n) p
-turned-amount f Future n p = refl
-turned-amount f kinds.Call n p = refl
-turned-amount f kinds.Put n p = refl
-turned-amount f CallOnFuture n p = refl
-turned-amount f PutOnFuture n p = sym (neg_amount f n p)
+turned-amount f k n p = grind (arith, neg_amount)
 
 pub eqb_sym : (a b : ℕ) → eqb a b ≡ eqb b a
 eqb_sym a b = grind (arith, nat_tests)
@@ -115,11 +112,7 @@ eqb_sym a b = grind (arith, nat_tests)
 -- n units at the mark of s, where the mark of m moves
 one_move : (f : Family) (now : ℕ → ℤ) (m : ℕ) (x : ℤ) (s : ℕ) (n p : ℤ)
     → amount f n (cond (eqb s m) x (now s) -ℤ p) ≡ amount f n (now s -ℤ p) +ℤ amount f (cond (eqb m s) n (pos 0)) (x -ℤ now m)
-one_move f now m x s n p = rw (eqb_sym m s) (ways (eqb s m) (eqb-true s m))
-  where
-    ways : (c : Bool) → (c ≡ true → s ≡ m) → amount f n (cond c x (now s) -ℤ p) ≡ amount f n (now s -ℤ p) +ℤ amount f (cond c n (pos 0)) (x -ℤ now m)
-    ways true e = rw (e refl) (simp bilinear (omega (arith, ints)))
-    ways false e = simp bilinear (omega (arith, ints))
+one_move f now m x s n p = grind (arith, common_steps, bilinear)
 
 pub worth_mark : (f : Family) (a : ℕ) (now : ℕ → ℤ) (m : ℕ) (x : ℤ) (j : Journal)
     → worth_then f a (λ s. cond (eqb s m) x (now s)) j ≡ worth_then f a now j +ℤ amount f (moving a m j) (x -ℤ now m)

@@ -7,12 +7,12 @@ use Rattle.terms.specs.declared.kinds.AccountKind.{AccountKind}
 use Rattle.terms.specs.declared.kinds.AccountKind.TheVariants.{Client}
 use Rattle.positions.specs.declared.position.Position.{Position}
 use Rattle.positions.specs.Positions.{flat, units}
-use Rattle.positions.specs.Keys.{future_key, line_key}
+use Rattle.positions.specs.Keys.{future_key, is_future_key, line_key, series_of_key}
 use Rattle.ledger.specs.declared.rows.Account.{Account}
 use Rattle.ledger.specs.declared.rows.State.{State}
 use Rattle.ledger.specs.declared.rows.State.TheVariants.{Trading, Fixed, Done}
 use Rattle.ledger.specs.declared.rows.Terms.{Terms}
-use Rattle.ledger.specs.Numbers.{family_of, is_future_key, series_of_key}
+use Rattle.ledger.specs.Numbers.{family_of}
 use Rattle.ledger.specs.Rows.{at, held_by}
 
 -- for how many rows each register has space

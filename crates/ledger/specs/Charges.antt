@@ -9,10 +9,10 @@ use Rattle.tariffs.specs.declared.side.Event.TheVariants.{Trade, Exercise}
 use Rattle.tariffs.specs.declared.side.Side.{Side}
 use Rattle.positions.specs.declared.position.Position.{Position}
 use Rattle.positions.specs.Money.{payoff, lapses}
-use Rattle.positions.specs.Keys.{future_key}
+use Rattle.positions.specs.Keys.{future_key, account_of_key}
 use Rattle.ledger.specs.Calls.{Series, Call, admit, list, trade, close, mark, delta, enter, exercise, settle, Pricing}
 use Rattle.ledger.specs.Calls as calls
-use Rattle.ledger.specs.Numbers.{series_kind, size_of, key_of, account_of_key}
+use Rattle.ledger.specs.Numbers.{series_kind, size_of, key_of}
 use Rattle.ledger.specs.Rows.{in_series}
 use Rattle.ledger.specs.Book.{Book, kind_at, terms_at, final_of}
 

@@ -22,7 +22,7 @@ use Rattle.terms.specs.Families.{limit_of}
 use Rattle.charges.specs.Fees.{rated_all}
 use Rattle.positions.specs.Positions.{closable, in_range}
 use Rattle.positions.specs.Money.{balance_in}
-use Rattle.positions.specs.Keys.{future_key}
+use Rattle.positions.specs.Keys.{future_key, account_of_key}
 use Rattle.ledger.specs.declared.rows.Terms.{Terms}
 use Rattle.ledger.specs.Calls.{Series, Trade, Call, admit, list, trade, close, mark, delta, enter, exercise, settle, Pricing}
 use Rattle.ledger.specs.Numbers.{
@@ -45,7 +45,6 @@ use Rattle.ledger.specs.Numbers.{
   key_of,
   kind_of_key,
   future_of_key,
-  account_of_key,
 }
 use Rattle.ledger.specs.Rows.{present, in_series, first}
 use Rattle.ledger.specs.Book.{Spaces, Book, family_in, cash_at, state_at, position_at, is_trading, is_fixed, is_done, month_at, delta_of}

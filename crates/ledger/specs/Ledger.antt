@@ -8,9 +8,9 @@ use Rattle.terms.specs.declared.kinds.Size.{Size}
 use Rattle.positions.specs.declared.position.Position.{Position}
 use Rattle.positions.specs.Positions.{flat, units, dealt, closed}
 use Rattle.positions.specs.Money.{amount, payoff}
-use Rattle.positions.specs.Keys.{future_key}
+use Rattle.positions.specs.Keys.{future_key, is_future_key}
 use Rattle.ledger.specs.Calls.{Trade, Call, admit, list, trade, close, mark, delta, enter, exercise, settle, Pricing}
-use Rattle.ledger.specs.Numbers.{series_kind, size_of, account_kind_of, is_future, key_of, is_future_key, all_series}
+use Rattle.ledger.specs.Numbers.{series_kind, size_of, account_kind_of, is_future, key_of, all_series}
 use Rattle.ledger.specs.Rows.{sum_below}
 use Rattle.ledger.specs.Book.{weight}
 use Rattle.ledger.specs.Charges.{trade_side, lapses_at, fee_of, bought_fees}

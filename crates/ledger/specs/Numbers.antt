@@ -105,10 +105,7 @@ size_offered f x z = nat_lt z 2 && size_in f (series_kind x) (size_of z)
 abbrev pub key_of : Series → ℕ
 key_of x = series_key x.kind x.month x.strike
 
--- of the series with this key: whether it is a future, its kind's number, the key of its month's future
-abbrev pub is_future_key : ℕ → Bool
-is_future_key s = s % 655360 == 0
-
+-- of the series with this key: its kind's number, the key of its month's future
 abbrev pub kind_of_key : ℕ → ℕ
 kind_of_key s = (s / 131072) % 5
 
@@ -118,10 +115,3 @@ future_of_key s = (s / 655360) * 655360
 -- past the key of every series
 abbrev pub all_series : ℕ
 all_series = 786432000
-
--- the series and the account of a position's key
-abbrev pub series_of_key : ℕ → ℕ
-series_of_key k = k / 65536
-
-abbrev pub account_of_key : ℕ → ℕ
-account_of_key k = k % 65536

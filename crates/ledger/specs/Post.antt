@@ -12,13 +12,13 @@ use Rattle.terms.specs.Kinds.{units_in}
 use Rattle.positions.specs.declared.position.Position.{Position}
 use Rattle.positions.specs.Positions.{units, dealt, closed}
 use Rattle.positions.specs.Money.{amount}
-use Rattle.positions.specs.Keys.{future_key, line_key}
+use Rattle.positions.specs.Keys.{future_key, line_key, account_of_key}
 use Rattle.ledger.specs.declared.rows.Account.{Account}
 use Rattle.ledger.specs.declared.rows.State.{State}
 use Rattle.ledger.specs.declared.rows.State.TheVariants.{Trading, Fixed, Done}
 use Rattle.ledger.specs.declared.rows.Terms.{Terms}
 use Rattle.ledger.specs.Calls.{Series, Trade, Call, admit, list, trade, close, mark, delta, enter, exercise, settle, Pricing}
-use Rattle.ledger.specs.Numbers.{series_kind, size_of, account_kind_of, is_future, key_of, account_of_key}
+use Rattle.ledger.specs.Numbers.{series_kind, size_of, account_kind_of, is_future, key_of}
 use Rattle.ledger.specs.Rows.{change, revise, in_series, outside}
 use Rattle.ledger.specs.Book.{Book, book, family_in, nobody, unlisted, kind_at, terms_at, value_at, final_of}
 use Rattle.ledger.specs.Charges.{trade_side, all_bought, payoff_at, lapses_at, charged, fee_of, fees_of, bought_fees}

@@ -4,7 +4,7 @@ use Rattle.std.specs.Option.{unwrap_or}
 use Rattle.registers.specs.Rows.{Rows, lookup, put, without}
 use Rattle.positions.specs.declared.position.Position.{Position}
 use Rattle.positions.specs.Positions.{flat, is_flat}
-use Rattle.ledger.specs.Numbers.{series_of_key, account_of_key}
+use Rattle.positions.specs.Keys.{series_of_key, account_of_key}
 
 -- what stands under the key k, and d where there is no row
 abbrev pub at : {V : Type 0} → V → Rows V → ℕ → V

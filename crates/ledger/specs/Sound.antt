@@ -3,7 +3,8 @@ use Rattle.std.specs.Prelude.{◌≡◌, ℕ, ◌<◌, ◌≤◌, true, false, L
 use Rattle.positions.specs.Positions.{flat, in_range}
 use Rattle.positions.specs.Money.{balance_in}
 use Rattle.ledger.specs.Calls.{Event}
-use Rattle.ledger.specs.Numbers.{future_of_key, account_of_key}
+use Rattle.positions.specs.Keys.{account_of_key}
+use Rattle.ledger.specs.Numbers.{future_of_key}
 use Rattle.ledger.specs.Rows.{present, Each}
 use Rattle.ledger.specs.Book.{Spaces, Book, opened, cash_at, terms_at, value_at, state_at, position_at, is_done, final_of}
 use Rattle.ledger.specs.Judge.{fits}

@@ -6,9 +6,8 @@ use Rattle.registers.proofs.Always.{rising}
 use Rattle.positions.specs.declared.position.Position.{Position}
 use Rattle.positions.specs.Positions.{units, in_range}
 use Rattle.positions.specs.Money.{amount, balance_in}
-use Rattle.positions.specs.Keys.{future_key}
+use Rattle.positions.specs.Keys.{future_key, account_of_key}
 use Rattle.ledger.specs.Calls.{mark}
-use Rattle.ledger.specs.Numbers.{account_of_key}
 use Rattle.ledger.specs.Rows.{in_series, Each}
 use Rattle.ledger.specs.Book.{Book, family_in, cash_at, value_at, position_at}
 use Rattle.ledger.specs.Judge.{Verdict, accepted, unless, judge_opening, judge_mark, judge_call, holder_in, overdrawn}

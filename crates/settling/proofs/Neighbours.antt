@@ -9,8 +9,7 @@ use Rattle.registers.proofs.OneRow.{rising_down}
 use Rattle.registers.proofs.Stretches.{length_front, length-stretch}
 use Rattle.positions.specs.declared.position.Position.{Position}
 use Rattle.positions.specs.Positions.{flat}
-use Rattle.positions.specs.Keys.{line_key}
-use Rattle.ledger.specs.Numbers.{series_of_key, account_of_key}
+use Rattle.positions.specs.Keys.{line_key, series_of_key, account_of_key}
 use Rattle.ledger.specs.Rows.{at, present, in_series, Each}
 use Rattle.ledger.specs.Book.{Book, position_at}
 use Rattle.ledger.proofs.RowLaws.{first_key, in_series_lem, each_more, each_kept}

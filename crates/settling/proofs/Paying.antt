@@ -8,7 +8,7 @@ use Rattle.registers.specs.Rows.{Rows, Rising, lookup}
 use Rattle.registers.proofs.OneRow.{lookup-put_other}
 use Rattle.positions.specs.Money.{balance_in}
 use Rattle.ledger.specs.declared.rows.Account.{Account}
-use Rattle.ledger.specs.Numbers.{series_of_key, account_of_key}
+use Rattle.positions.specs.Keys.{series_of_key, account_of_key}
 use Rattle.ledger.specs.Rows.{at, present, change, first, Each}
 use Rattle.ledger.specs.Book.{nobody}
 use Rattle.ledger.specs.Judge.{need, unless}

@@ -7,7 +7,7 @@ use Rattle.positions.specs.declared.position.Position.{Position}
 use Rattle.positions.specs.Positions.{units}
 use Rattle.positions.specs.Money.{balance_in}
 use Rattle.ledger.specs.declared.rows.Account.{Account}
-use Rattle.ledger.specs.Numbers.{account_of_key}
+use Rattle.positions.specs.Keys.{account_of_key}
 use Rattle.ledger.specs.Rows.{present, Each}
 use Rattle.ledger.specs.Book.{Book}
 use Rattle.ledger.specs.Judge.{Verdict, need}

@@ -4,7 +4,7 @@ ghost use Rattle.std.specs.List.{zip};
 ghost use Rattle.terms.specs.declared.refusal.Reason.TheVariants.{AmountOutOfRange};
 ghost use Rattle.terms.specs.Refusals.{about};
 ghost use Rattle.registers.specs.Held.{rows_of, room_of};
-ghost use Rattle.ledger.specs.Numbers.{account_of_key};
+ghost use Rattle.positions.specs.Keys.{account_of_key};
 ghost use Rattle.ledger.specs.Judge.{need};
 ghost use Rattle.ledger.specs.Post.{pay};
 ghost use Rattle.settling.specs.Payments.{affords, gains, tested, Ready, pay_all};

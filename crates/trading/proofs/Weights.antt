@@ -7,10 +7,10 @@ use Rattle.registers.specs.Rows.{Rows, keys_in, contents_in}
 use Rattle.registers.specs.Sums.{total_ℤ}
 use Rattle.positions.specs.declared.position.Position.{Position}
 use Rattle.positions.specs.Positions.{flat, units, dealt}
-use Rattle.positions.specs.Keys.{line_key}
+use Rattle.positions.specs.Keys.{line_key, series_of_key, account_of_key}
 use Rattle.terms.specs.declared.kinds.Size.{Size}
 use Rattle.ledger.specs.Calls.{Trade, Pricing, trade}
-use Rattle.ledger.specs.Numbers.{key_of, size_of, series_of_key, account_of_key}
+use Rattle.ledger.specs.Numbers.{key_of, size_of}
 use Rattle.ledger.specs.Rows.{at, revise}
 use Rattle.ledger.specs.Book.{Book, kind_at, delta_at, weight, delta_of}
 use Rattle.ledger.specs.Post.{post, traded}

@@ -2,10 +2,10 @@
 use Rattle.std.specs.Prelude.{◌≡◌, ℕ, cond, ℤ, pos, ◌+ℤ◌, ◌-ℤ◌, neg_ℤ, Some, None, Option, ◌==◌}
 use Rattle.positions.specs.declared.position.Position.{Position}
 use Rattle.positions.specs.Positions.{units, is_flat, dealt, counted}
-use Rattle.positions.specs.Keys.{line_key}
+use Rattle.positions.specs.Keys.{line_key, series_of_key, account_of_key}
 use Rattle.registers.specs.Rows.{lookup, put}
 use Rattle.ledger.specs.Calls.{Trade, Pricing}
-use Rattle.ledger.specs.Numbers.{key_of, size_of, series_of_key, account_of_key}
+use Rattle.ledger.specs.Numbers.{key_of, size_of}
 use Rattle.ledger.specs.Rows.{at, placed}
 use Rattle.ledger.specs.Book.{Book, book, nobody, family_in, kind_at, terms_at, value_at, position_at, delta_at, weight}
 use Rattle.ledger.specs.Charges.{trade_side, fee_of}

@@ -1,7 +1,7 @@
 use Rattle.std.proofs.Common.{◌≡◌, Some, w64, SFits, rules}
 use Rattle.registers.specs.Rows.{lookup}
 use Rattle.registers.specs.Held.{rows_of}
-use Rattle.ledger.specs.Numbers.{account_of_key}
+use Rattle.positions.specs.Keys.{account_of_key}
 use Rattle.settling.proofs.Balances.{paid_is}
 use Rattle.settling.proofs.lines.post_line.Goals as goal
 

@@ -1,15 +1,16 @@
-use Rattle.std.proofs.Common.{◌≡◌, sym, ap, ◌∙◌, subst, ap₂}
+use Rattle.std.proofs.Common.{◌≡◌, Ok, Err, sym, ap, ◌∙◌, subst, ap₂}
 use Rattle.std.proofs.lemmas.Result.{err_from_is_err_and}
 use Rattle.terms.specs.declared.family.Family.{Family}
 use Rattle.ledger.specs.Calls as calls
 use Rattle.ledger.specs.Judge.{Verdict}
 use Rattle.ledger.specs.Numbers.{family_of}
+use Rattle.ledger.specs.Post.{post}
 use Rattle.ledger.specs.Runs.{judge}
 use Rattle.tables.specs.declared.tables.Tables.{Tables}
 use Rattle.tables.specs.Model.{Judges, model_of}
 use Rattle.tables.proofs.Following.{never_opened}
 use Rattle.trading.specs.Deals.{trade_of, event_of, trade_in}
-use Rattle.trading.specs.Parts.{asked}
+use Rattle.trading.specs.Parts.{asked, allowed}
 use Rattle.trading.specs.Found.{OutcomeOf}
 use Rattle.trading.proofs.Chains.{also_ok, also_err}
 use Rattle.trading.proofs.Whole.{judged_by}
@@ -59,13 +60,13 @@ returns-in_err-allowed g c =
     let d = c.in_ok-deal.ensures in
     let t = trade_in c.in_ok-deal.deal in
     let numbers = ap₂ asked (family_is o.1 c.in_ok-book.book.family_is) d.1 ∙ d.0 in
-    let limits = rw o.1 at (c.in_err-allowed.ensures p) in
+    let limits : allowed (model_of u) t (post (model_of u) (calls.trade t) p) ≡ Err c.in_err-allowed.field-0.0 = sym (rw o.1 at (c.in_err-allowed.ensures p)) in
     rw (e.1, e.2)
     (ap (λ (x : calls.Trade). judge (model_of u) (event_of p x)) (sym d.1)
     ∙ judged_by u t p o.0
     ∙ also_ok _ _ numbers
     ∙ also_ok _ _ c.in_ok-parties.ensures.0
-    ∙ also_err _ _ _ (sym limits))
+    ∙ also_err _ _ _ limits)
 
 pub returns : goal.returns
 returns g c =
@@ -75,11 +76,11 @@ returns g c =
     let d = c.in_ok-deal.ensures in
     let t = trade_in c.in_ok-deal.deal in
     let numbers = ap₂ asked (family_is o.1 c.in_ok-book.book.family_is) d.1 ∙ d.0 in
-    let limits = rw o.1 at (c.in_ok-allowed.ensures p) in
+    let limits : allowed (model_of u) t (post (model_of u) (calls.trade t) p) ≡ Ok tt = sym (rw o.1 at (c.in_ok-allowed.ensures p)) in
     let whole =
     judged_by u t p o.0
     ∙ also_ok _ _ numbers
     ∙ also_ok _ _ c.in_ok-parties.ensures.0
-    ∙ also_ok _ _ (sym limits) in
+    ∙ also_ok _ _ limits in
     subst (λ (x : calls.Trade). Judges (judge (model_of u) (event_of p x)) (OutcomeOf (model_of u) x p) c.priced.result) d.1
     (subst (λ (v : Verdict). Judges v (OutcomeOf (model_of u) t p) c.priced.result) (sym whole) (rw o.1 at c.priced.ensures))

@@ -18,6 +18,7 @@ struct Prices {
 }
 
 /// The final price that the samples and the close make for the family.
+#[tactic(auto, using(crate::proofs::Means::meant))]
 pub(crate) fn final_price(family: Family, samples: &[u32], close: u32) -> u32
     requires few { length samples.now ≤ 200 }
     requires prices { NoneAbove 10000000 samples.now }
@@ -44,6 +45,7 @@ fn total(samples: &[u32]) -> u64
 
 impl Prices {
     // The samples and the close.
+    #[tactic(auto, using(crate::proofs::Means::sum_most))]
     fn of(samples: &[u32], close: u32) -> Prices
         requires few { length samples.now ≤ 200 }
         requires prices { NoneAbove 10000000 samples.now }

@@ -19,6 +19,7 @@ struct Prices {
 }
 
 /// The final price that the samples and the close make for the family.
+#[tactic(auto, using(crate::proofs::Means::meant))]
 pub(crate) fn final_price(family: Family, samples: &[u32], close: u32) -> FinalPrice
     requires few { length samples.now ≤ 200 }
     requires prices { NoneAbove 10000000 samples.now }
@@ -33,8 +34,17 @@ pub(crate) fn final_price(family: Family, samples: &[u32], close: u32) -> FinalP
     }
 }
 
+// The sum of the samples.
+fn total(samples: &[u32]) -> u64
+    requires { length samples.now ≤ 200 }
+    ensures { result ≡ sum samples.now }
+{
+    samples.iter().map(|price| u64::from(*price)).sum()
+}
+
 impl Prices {
     // The samples and the close.
+    #[tactic(auto, using(crate::proofs::Means::sum_most))]
     fn of(samples: &[u32], close: u32) -> Prices
         requires few { length samples.now ≤ 200 }
         requires prices { NoneAbove 10000000 samples.now }
@@ -42,9 +52,8 @@ impl Prices {
         ensures total { result.sum ≡ sum (samples.now ++ close ∷ []) }
         ensures number { result.count ≡ length (samples.now ++ close ∷ []) }
     {
-        let total: u64 = samples.iter().map(|price| u64::from(*price)).sum();
         Prices {
-            sum: total + u64::from(close),
+            sum: total(samples) + u64::from(close),
             count: samples.len() as u64 + 1,
         }
     }

@@ -1,5 +1,5 @@
 -- What the runs of a span count together.
-use Rattle.std.proofs.Common.{◌≡◌, ℕ, ◌+◌, ◌<◌, List, [], ◌∷◌, length, fold, Option, refl, ap, not, ◌≤◌, ◌-◌, arith, length-append}
+use Rattle.std.proofs.Common.{◌≡◌, ℕ, ◌+◌, ◌<◌, List, [], ◌∷◌, length, fold, Option, refl, ap, ◌≤◌, ◌-◌, arith, length-append}
 use Rattle.std.specs.Bool.{⊤}
 use Rattle.std.specs.Iterator.{Yields, Drains}
 use Rattle.std.specs.Iterator.Runs.{EachRunFrom, YieldsRun}
@@ -14,8 +14,8 @@ use denote.Param.Members.{Mut}
 use Rattle.std.proofs.lemmas.List.FromFn.{length-map-range_with_len, length-range_with_len}
 use Rattle.strikelists.specs.declared.span.Span.{Span}
 use Rattle.strikelists.specs.declared.span.Run.{Run}
-use Rattle.strikelists.proofs.Stretches.{first_behind}
-use Rattle.strikelists.specs.Runs.{listed, stretch, behind, above, rungs_in, rungs_of, TakesRun}
+use Rattle.strikelists.proofs.Stretches.{lowest}
+use Rattle.strikelists.specs.Runs.{listed, strikes_of, behind, above, rungs_in, rungs_of, TakesRun}
 
 pub length-rungs_of : (r : Run) → length (rungs_of r) ≡ rungs_in r
 length-rungs_of r = length-map-range_with_len _ 0 (rungs_in r)
@@ -48,8 +48,8 @@ module _ {S F : Type 0} (left : S → Span) (g : Mut F (Run × Unit {0}) ℕ) (f
 
     -- and together they are the strikes behind the first
     pub total : (n : ℕ) → (ns : List ℕ) × (⊤ → Drains counts s ns) × (n ≡ fold (λ b n. b + n) 0 ns)
-        → (1 + n ≡ length (stretch span.grid.steps.bands span.low span.high)) × (n ≤ 200000)
+        → (1 + n ≡ length (strikes_of span)) × (n ≤ 200000)
     total n sums =
         let all = sums.1 tt in
         let is : n ≡ ahead s = omega (arith, counted sums.0 0 s all.1.0 e all.1.1, ap length all.1.2.0, sums.2) in
-        (omega (arith, ap (λ sp. length (above sp)) at, ap length (first_behind span.grid.steps.bands span.low span.high span.ends.from span.ends.order)), omega (arith, most))
+        (omega (arith, ap (λ sp. length (above sp)) at, ap length (lowest span)), omega (arith, most))

@@ -23,3 +23,8 @@ module _ (bands : List StepBand) (x s : ℕ) (g : Grid bands) (e : s ≡ step_in
 
   pub ceil_least : (k : ℕ) → Listed bands k → x - x % s < k → (x - x % s) + s ≤ k
   ceil_least k l above = rw e (grid.ceil_least bands g.join x k l.whole (rw (← e) above))
+
+-- what gives the greatest strike at or below x, and the least above it
+pub ruleset floors = (rises, floor_on, floor_most)
+
+pub ruleset ceilings = (rises, ceil_near, ceil_on, ceil_least)

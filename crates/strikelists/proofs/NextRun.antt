@@ -1,5 +1,5 @@
 -- The next run of a span.
-use Rattle.std.proofs.Common.{◌≡◌, ℕ, ◌+◌, ◌-◌, ◌*◌, ◌/◌, ◌%◌, ◌<◌, ◌≤◌, min, List, ◌++◌, Option, Some, None, find, ltb, ⊎_elim, subst, sym, ap, ◌∙◌, div-add-mod', arith}
+use Rattle.std.proofs.Common.{◌≡◌, ℕ, ◌+◌, ◌-◌, ◌*◌, ◌/◌, ◌%◌, ◌<◌, ◌≤◌, min, List, ◌++◌, Option, Some, None, find, ltb, ⊎_elim, sym, ap, ◌∙◌, div-add-mod', arith}
 use native.Mathlib.Nat.{mul-mod_right, mul-sub, div-add-mod}
 use Rattle.std.proofs.lemmas.Bool.{cases_lt}
 use Rattle.std.specs.Option.{option_map, unwrap_or}

@@ -11,9 +11,10 @@ use Rattle.std.proofs.lemmas.Bool.{cond-true, cases_Bool}
 use Rattle.terms.specs.declared.steps.StepBand.{StepBand}
 use Rattle.terms.specs.Steps.{step_in, Listed}
 use Rattle.terms.proofs.Grid as grid
+use Rattle.strikelists.specs.declared.span.Span.{Span}
 use Rattle.strikelists.specs.Strikes.{Between}
 use Rattle.strikelists.specs.Grids.{Grid}
-use Rattle.strikelists.specs.Runs.{listed, stretch, behind, rungs}
+use Rattle.strikelists.specs.Runs.{listed, stretch, strikes_of, behind, above, rungs}
 
 listed_true : (bands : List StepBand) (k : ℕ) → Listed bands k → listed bands k ≡ true
 listed_true bands k l = let some = l.some in let whole = l.whole in grind (arith, nat_tests)
@@ -62,11 +63,12 @@ kept_last : (p : ℕ → Bool) (n a : ℕ) → ((x : ℕ) → a ≤ x → x < a 
 kept_last p zero a none y = grind (arith, common_steps)
 kept_last p (suc n) a none y = grind (arith, common_steps, none a, kept_last p n (a + 1))
 
--- a stretch is its first strike and those behind it
-pub first_behind : (bands : List StepBand) (low high : ℕ) → Listed bands low → low ≤ high → stretch bands low high ≡ low ∷ behind bands low high
-first_behind bands low high l le =
-    let e : suc high - low ≡ suc (high - low) = omega arith in
-    rw e (cond-true (listed bands low) (low ∷ behind bands low high) (behind bands low high) (listed_true bands low l))
+-- the strikes of a span are its lower strike and those above it
+pub lowest : (span : Span) → strikes_of span ≡ span.low ∷ above span
+lowest span =
+    let e : suc span.high - span.low ≡ suc (span.high - span.low) = omega (arith, span.ends.order) in
+    let bands = span.grid.steps.bands in
+    rw e (cond-true (listed bands span.low) (span.low ∷ above span) (above span) (listed_true bands span.low span.ends.from))
 
 -- what lies behind a strike, up to a point and from there on
 pub split : (bands : List StepBand) (low k high : ℕ) → low ≤ k → k ≤ high → behind bands low high ≡ behind bands low k ++ behind bands k high

@@ -1,7 +1,6 @@
 -- The words leave no choice.
-use Rattle.std.proofs.Common.{◌≡◌, ℕ, zero, suc, ◌<◌, ◌≤◌, ◌⊎◌, List, [], ◌∷◌, length, get_or, sym, refl, subst, inl, inr, ⊎_elim, arith}
+use Rattle.std.proofs.Common.{◌≡◌, ℕ, zero, suc, ◌<◌, ◌⊎◌, List, [], ◌∷◌, length, get_or, refl, inl, inr, arith}
 use Rattle.terms.specs.declared.steps.StepBand.{StepBand}
-use Rattle.terms.specs.Steps.{Listed}
 use Rattle.strikelists.specs.Strikes.{Nearest, LowEnd, HighEnd, Holds, Between, StrikeList}
 use Rattle.strikelists.specs.Lists.{OneNearest, OneList}
 use Rattle.strikelists.specs.Runs.{stretch}

@@ -18,6 +18,10 @@ stretch bands low high = filter (listed bands) (range_with_len low (suc high - l
 abbrev pub behind : List StepBand → ℕ → ℕ → List ℕ
 behind bands low high = filter (listed bands) (range_with_len (low + 1) (high - low))
 
+-- all strikes of a span, and those above its lower strike
+abbrev pub strikes_of : Span → List ℕ
+strikes_of span = stretch span.grid.steps.bands span.low span.high
+
 abbrev pub above : Span → List ℕ
 above span = behind span.grid.steps.bands span.low span.high
 

@@ -7,7 +7,7 @@ use terms::Price;
 
 impl StrikeGrid {
     // The greatest strike at or below `point`, or 0 where there is none.
-    #[tactic(auto, using(crate::proofs::Neighbours::rises, crate::proofs::Neighbours::floor_on, crate::proofs::Neighbours::floor_most))]
+    #[tactic(auto, using(crate::proofs::Neighbours::floors))]
     fn at_or_below(&self, point: u32) -> u32
         ensures below { result ≤ point }
         ensures listed { 0 < result → Listed self.now.steps.bands result }
@@ -17,7 +17,7 @@ impl StrikeGrid {
     }
 
     // The least strike at or above `point`.
-    #[tactic(auto, using(crate::proofs::Neighbours::rises, crate::proofs::Neighbours::ceil_near, crate::proofs::Neighbours::ceil_on, crate::proofs::Neighbours::ceil_least))]
+    #[tactic(auto, using(crate::proofs::Neighbours::ceilings))]
     fn at_or_above(&self, point: u32) -> u32
         requires { (0 < point) × (point ≤ 1000000) }
         ensures above { (point ≤ result) × (result ≤ point + 200) }

@@ -1,6 +1,6 @@
 ghost use Rattle.std.specs.Prelude.{◌≡◌, ◌-◌, ◌≤◌, ◌++◌, length, drop};
 ghost use Rattle.std.specs.Iterator.{at_most};
-ghost use Rattle.strikelists.specs.Runs.{rungs_in, stretch, rungs_of, run_end, TakesRun};
+ghost use Rattle.strikelists.specs.Runs.{rungs_in, rungs_of, strikes_of, run_end, TakesRun};
 
 use crate::span::{Run, Span};
 use terms::StepBand;
@@ -69,15 +69,15 @@ fn run_end(bands: &[StepBand], strike: u32, high: u32) -> u32
 impl Span {
     /// How many strikes there are.
     pub(crate) fn count(&self) -> usize
-        ensures { result ≡ length (stretch self.now.grid.steps.bands self.now.low self.now.high) }
+        ensures { result ≡ length (strikes_of self.now) }
     {
         1 + self.runs().map(|run| run.rungs()).sum::<usize>()
     }
 
     /// Writes the strikes to the front of `out`.
     pub(crate) fn fill(&self, out: &mut [u32])
-        requires { length (stretch self.now.grid.steps.bands self.now.low self.now.high) ≤ length out.old }
-        ensures { out.new ≡ stretch self.now.grid.steps.bands self.now.low self.now.high ++ drop (length (stretch self.now.grid.steps.bands self.now.low self.now.high)) out.old }
+        requires { length (strikes_of self.now) ≤ length out.old }
+        ensures { out.new ≡ strikes_of self.now ++ drop (length (strikes_of self.now)) out.old }
     {
         out[0] = self.low;
         let mut count = 1;

@@ -1,4 +1,4 @@
-use Rattle.std.proofs.Common.{◌≡◌, rules}
+use Rattle.std.proofs.Common.{rules}
 use Rattle.strikelists.proofs.Counts.{fits, total}
 use Rattle.strikelists.proofs.span.Span.count.Goals as goal
 

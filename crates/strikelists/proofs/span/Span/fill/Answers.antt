@@ -1,17 +1,16 @@
-use Rattle.std.proofs.Common.{◌≡◌, ◌+◌, ◌≤◌, ◌++◌, length, rules, arith, ap, length-append}
+use Rattle.std.proofs.Common.{◌≡◌, ◌+◌, ◌≤◌, ◌++◌, length, rules, arith}
 use Rattle.std.proofs.lemmas.Grind.{common_steps}
 use Rattle.strikelists.specs.Runs.{above, rungs_of}
 use Rattle.strikelists.proofs.Counts.{length-rungs_of}
 use Rattle.strikelists.proofs.Filled.{filled_none, filled_more, filled_all}
-use Rattle.strikelists.proofs.Stretches.{first_behind}
+use Rattle.strikelists.proofs.Stretches.{lowest}
 use Rattle.strikelists.proofs.span.Span.fill.Goals as goal
 
 pub loop-run-init : goal.loop-run-init
 loop-run-init c =
     let span = c.args.self.now in
-    let e = first_behind span.grid.steps.bands span.low span.high span.ends.from span.ends.order in
     let at : above c.into_iter-run-iterator.result.left ≡ above span = cc in
-    (tt, tt, rw at (filled_none e c.requires))
+    (tt, tt, rw at (filled_none (lowest span) c.requires))
 
 pub slice_bounds-write-end : goal.slice_bounds-write-end
 slice_bounds-write-end c =

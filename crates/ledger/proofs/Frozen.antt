@@ -1,5 +1,6 @@
 -- The net units of a series that has ended, and the final price of a month that is Fixed, no longer change: so the worth may be read from the whole journal.
 use Rattle.std.proofs.Common.{◌≡◌, ℕ, ◌*◌, Bool, true, false, cond, eqb, [], ◌∷◌, ℤ, pos, ◌+ℤ◌, ◌-ℤ◌, sym, refl, ap, ◌∙◌, subst, arith}
+use Rattle.std.proofs.lemmas.Grind.{common_steps}
 use lib.IntN.{+ℤ_idl}
 use borrow.Author.Differences.{ints}
 use Rattle.std.proofs.lemmas.Bool.{eqb-true, eq-eqb, ne_eqb, true≢false, false≢true}
@@ -49,18 +50,7 @@ record Grows (b c : Book) : Type 0 where
 
 ended_more : (b c : Book) → Grows b c → (j : Journal) → Ended b j → Ended c j
 ended_more b c g [] o = tt
-ended_more b c g (e ∷ j) o = (λ q. by e.call (o.0 q), ended_more b c g j o.1)
-  where
-    by : (k : Call) → EndedBy b k → EndedBy c k
-    by (admit a h) i = tt
-    by (list x v) i = tt
-    by (trade t) i = tt
-    by (close x a k) i = tt
-    by (mark m x) i = tt
-    by (delta x d) i = tt
-    by (enter m f x) i = tt
-    by (exercise x level) i = g.ends (key_of x) i
-    by (settle x) i = λ q. (g.ends (key_of x) (i q).0, g.fixes (future_key x.month) (i q).1)
+ended_more b c g (e ∷ j) o = grind (arith, ended_more b c g j o.1)
 
 grows_change : (f : Terms → Terms) (n : ℕ) (b c : Book) → c.series ≡ change unlisted f n b.series
     → (is_done (state_at b n) ≡ true → is_done (f (terms_at b n)).state ≡ true) → (is_trading (state_at b n) ≡ false → is_trading (f (terms_at b n)).state ≡ false) → Grows b c
@@ -78,44 +68,16 @@ grows_change f n b c e h g = record {
     two s false q d = d
 
 grows_same : (b c : Book) → c.series ≡ b.series → Grows b c
-grows_same b c e = record {
-  ends = λ s d. subst (λ (rs : Rows Terms). is_done (at unlisted rs s).state ≡ true) (sym e) d;
-  fixes = λ s d. subst (λ (rs : Rows Terms). is_trading (at unlisted rs s).state ≡ false) (sym e) d;
-}
+grows_same b c e = grind arith
 
 end_is : (n : ℕ) (rs : Rows Terms) → is_done (at unlisted (change unlisted (stated Done) n rs) n).state ≡ true
-end_is n rs = subst (λ (t : Terms). is_done t.state ≡ true) (sym (at_terms (stated Done) n n rs)) (ways (eqb n n) (eq-eqb n n refl))
-  where
-    ways : (c : Bool) → c ≡ true → is_done (cond c (stated Done (at unlisted rs n)) (at unlisted rs n)).state ≡ true
-    ways true e = refl
-    ways false e = absurd (false≢true e)
+end_is n rs = grind (arith, at_terms)
 
 -- ---- the sums
 gains_same : (b : Book) (u : Family) (a : ℕ) (now N M : ℕ → ℤ) (F G : ℕ → ℕ) → ((s : ℕ) → is_done (state_at b s) ≡ true → N s ≡ M s) → ((s : ℕ) → is_trading (state_at b s) ≡ false → F s ≡ G s)
     → (j : Journal) → Ended b j → gains u a now N F j ≡ gains u a now M G j
 gains_same b u a now N M F G h g [] o = refl
-gains_same b u a now N M F G h g (e ∷ j) o = ways e.accepted e.call o.0 (gains_same b u a now N M F G h g j o.1)
-  where
-    settled : (c : Bool) (x : Series) → (c ≡ false → (is_done (state_at b (key_of x)) ≡ true) × (is_trading (state_at b (future_key x.month)) ≡ false))
-        → cond c (pos 0) (amount u (N (key_of x)) (pos (payoff (series_kind x) x.strike (F (future_key x.month))))) ≡ cond c (pos 0) (amount u (M (key_of x)) (pos (payoff (series_kind x) x.strike (G (future_key x.month)))))
-    settled true x i = refl
-    settled false x i = rw (h (key_of x) (i refl).0, g (future_key x.month) (i refl).1)
-
-    by : (c : Call) → EndedBy b c → gain_by c u a now N F ≡ gain_by c u a now M G
-    by (admit d k) i = refl
-    by (list x v) i = refl
-    by (trade t) i = refl
-    by (close x d k) i = refl
-    by (mark m x) i = refl
-    by (delta x d) i = refl
-    by (enter m f x) i = refl
-    by (exercise x level) i = ap (λ (n : ℤ). cond (lapses_at x level) (pos 0) (turned (series_kind x) (amount u n (now (future_key x.month) -ℤ pos (100 * x.strike))))) (h (key_of x) i)
-    by (settle x) i = settled (is_future (series_kind x)) x i
-
-    ways : (t : Bool) (c : Call) → (t ≡ true → EndedBy b c) → gains u a now N F j ≡ gains u a now M G j
-        → cond t (gain_by c u a now N F) (pos 0) +ℤ gains u a now N F j ≡ cond t (gain_by c u a now M G) (pos 0) +ℤ gains u a now M G j
-    ways true c i ih = omega (arith, ints, by c (i refl), ih)
-    ways false c i ih = omega (arith, ints, ih)
+gains_same b u a now N M F G h g (e ∷ j) o = grind (arith, gains_same b u a now N M F G h g j o.1)
 
 step_same : (b : Book) (j : Journal) (c : Call) (p : Pricing) → Frozen b j
     → ((u : Family) (a : ℕ) (now : ℕ → ℤ) → gain_by c u a now (λ s. net a s (on c p j)) (final_in (on c p j)) ≡ gain_then c u a now j)
@@ -134,20 +96,10 @@ idle : (j : Journal) (a s : ℕ) → pos 0 +ℤ net a s j ≡ net a s j
 idle j a s = +ℤ_idl (net a s j)
 
 pub frozen_refused : (b : Book) (j : Journal) (e : Event) → Frozen b j → Frozen b (noted e false ∷ j)
-frozen_refused b j e φ = record {
-  ended = (λ q. absurd (false≢true q), φ.ended);
-  same = λ u a now. omega (
-    arith,
-    ints,
-    φ.same u a now,
-    gains_same b u a now (λ s. net a s (noted e false ∷ j)) (λ s. net a s j) (final_in j) (final_in j) (λ s _. idle j a s) (λ s _. refl) j φ.ended,
-  );
-}
+frozen_refused b j e φ = grind arith
 
 trading_open : (q : State) → is_trading q ≡ true → is_done q ≡ true → ⊥
-trading_open Trading e d = false≢true d
-trading_open (Fixed x) e d = false≢true e
-trading_open Done e d = false≢true e
+trading_open q e d = grind arith
 
 abbrev marked : Book → ℕ → Book
 marked b n = post_mark b n (pos (final_of (terms_at b n)))

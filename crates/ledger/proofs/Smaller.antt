@@ -15,9 +15,6 @@ use Rattle.ledger.specs.Laws.{noted, journal, Largest, Offsets, OffsetLaws, Even
 use Rattle.ledger.proofs.PositionLaws.{settled_units, closed_units}
 
 -- ---- the offset is the largest close
-abs_neg : (n : ℕ) → nat_abs (neg_ℤ (pos n)) ≡ n
-abs_neg n = grind arith
-
 by_signs : (f m : ℤ) → closed (nat_abs (opposed f m)) (position f m) ≡ less (opposed f m) (position f m)
 by_signs f m = grind arith
 

@@ -64,9 +64,6 @@ cleared_cash b j s m f c κ σ z q e a l = ways (is_flat (at flat b.positions (l
         ∙ ap (λ (y : Position). cash_at b a +ℤ f a y) (flat_is _ h) ∙ nothing (f a flat) (z a)))
         (σ.cash a l)
 
-if_line : (c : Bool) (x y : Position) (P : Position → Type 0) → (c ≡ true → P x) → P y → P (cond c x y)
-if_line c x y P h g = grind arith
-
 -- ---- terms
 abbrev Small : Terms → Type 0
 Small t = (nat_abs t.value ≤ 10000000) × (final_of t ≤ 10000000)
@@ -86,12 +83,6 @@ done_from : (g : Terms → Terms) (n s : ℕ) (rs : Rows Terms) → is_done (at 
 done_from g n s rs e h = grind (arith, at_terms)
 
 -- ---- rooms
-leb_less : (a b c : ℕ) → a ≤ b → leb b c ≡ true → leb a c ≡ true
-leb_less a b c h e = le-leb a c (omega (arith, leb-true b c e))
-
-and_less : (x y z u v w : Bool) → (x ≡ true → u ≡ true) → (y ≡ true → v ≡ true) → (z ≡ true → w ≡ true) → (x && (y && z)) ≡ true → (u && (v && w)) ≡ true
-and_less x y z u v w f g h e = grind arith
-
 fits_less : (b c : Book) → c.spaces ≡ b.spaces → length c.accounts ≤ length b.accounts → length c.series ≤ length b.series → length c.positions ≤ length b.positions → fits b ≡ true → fits c ≡ true
 fits_less b c e x y z h = grind arith
 
@@ -128,9 +119,6 @@ owned b j κ σ = both b.positions κ.rows (rows_found flat 0 b.positions κ.pos
 sound_admit : (b : Book) (a h : ℕ) (p : Pricing) → fits (post b (admit a h) p) ≡ true → Sound b → Sound (post b (admit a h) p)
 unfolding post
 sound_admit b a h p f σ = grind (arith, at_change, present_change)
-
-between : (lo hi v : ℤ) → nat_abs lo ≤ 10000000 → nat_abs hi ≤ 10000000 → (le_z lo v && le_z v hi) ≡ true → nat_abs v ≤ 10000000
-between lo hi v l h e = let g = and_parts (le_z lo v) (le_z v hi) e in omega (arith, ints, g.0, g.1)
 
 delta_small : (k : SeriesKind) (v : ℤ) → delta_range k v ≡ true → nat_abs v ≤ 10000000
 delta_small k v e = grind arith
@@ -192,9 +180,6 @@ unfolding post
 sound_enter b m f x p π σ = sound_terms b (stated (Fixed x)) (future_key m) (λ y. (y.0, π.price)) (λ d. absurd (false≢true d)) π.there σ
 
 -- ---- close
-less_in : (f m : ℤ) → nat_abs f ≤ 1000000 → nat_abs m ≤ 1000000 → in_range (position f m) ≡ true
-less_in f m x y = and_from (count_in f) (count_in m) (le-leb (nat_abs f) 1000000 x) (le-leb (nat_abs m) 1000000 y)
-
 closed_in : (k : ℕ) (l : Position) → closable k l ≡ true → in_range l ≡ true → in_range (closed k l) ≡ true
 closed_in k l e h = grind (arith, common_steps)
 

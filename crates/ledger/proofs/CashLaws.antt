@@ -104,10 +104,6 @@ module _ (f : ℕ → Position → ℤ) where
       every (r ∷ rs) = (omega arith, every rs)
 
 -- ---- fees
-fees_++ : (p : Pricing) (ss ts : List Side) → fees_of p (ss ++ ts) ≡ fees_of p ss +ℤ fees_of p ts
-fees_++ p [] ts = omega (arith, ints)
-fees_++ p (s ∷ ss) ts = omega (arith, ints, fees_++ p ss ts)
-
 -- the fees of all that was bought in these positions
 pub fees_bought : (b : Book) (p : Pricing) (k : SeriesKind) (rs : Rows Position)
     → fees_of p (all_bought b k rs) ≡ total_ℤ (brings (λ a l. bought_fees p a (kind_at b a) k l)) rs

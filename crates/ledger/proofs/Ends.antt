@@ -68,23 +68,23 @@ mark_kept b j m x p e κ =
     let v : ℤ = pos x in
     let back : (s : ℕ) → is_done (at unlisted (change unlisted (valued v) n b.series) s).state ≡ false → is_done (state_at b s) ≡ false = λ s. done_back (valued v) n s b.series (λ q. q) in
     record {
-      kinds = λ a. kind_pay_each (moved b j κ n v) a (in_series n b.positions) b.accounts ∙ κ.kinds a;
-      values = λ s. ap (λ (t : Terms). t.value) (at_terms (valued v) n s b.series) ∙ value_of (eqb s n) (valued v (terms_at b n)) (terms_at b s) ∙ ap (cond (eqb s n) v) (κ.values s);
+      kinds = grind (arith, kind_pay_each);
+      values = grind (arith, at_terms);
       finals = λ s f t. final s f (eqb s n) refl t;
-      account_order = rising_pay_each (moved b j κ n v) (in_series n b.positions) b.accounts κ.account_order;
-      series_order = rising_change unlisted (valued v) n b.series κ.series_order;
+      account_order = grind (arith, rising_pay_each);
+      series_order = grind (arith, rising_change);
       position_order = κ.position_order;
       rows = κ.rows;
       counts = κ.counts;
       unit = κ.unit;
       level = κ.level;
-      options = λ a s f q. κ.options a s f (back s q) ∙ sym (+ℤ_idl (net a s j));
-      futures = λ a s f q. κ.futures a s f (back s q) ∙ sym (+ℤ_idl (moving a s j));
-      still = λ a s f. +ℤ_idl (moving a s j) ∙ κ.still a s f;
+      options = grind arith;
+      futures = grind arith;
+      still = grind arith;
       cash = λ a l. idle_cash _ (family_in b) a (λ s. cond (eqb s n) v (given_in j s)) j (cash_moved b j κ n v (future_is m) (trading_open (state_at b n) e) a l);
       exchange = idle_fees _ j κ.exchange;
-      conserved = omega (arith, ints, κ.conserved, total_moved b j κ n v);
-      absent = λ a s l q. κ.absent a s l (present_change unlisted (valued v) n s b.series q);
+      conserved = grind (arith, total_moved);
+      absent = grind (arith, present_change);
     }
   where
     final : (s : ℕ) → is_future_key s ≡ true → (c : Bool) → eqb s (future_key m) ≡ c
@@ -123,21 +123,21 @@ lapse_kept b j x level p e f κ =
     record {
       kinds = κ.kinds;
       values = λ s. ended_value b j κ n s ∙ κ.values s;
-      finals = λ s i t. final_back (stated Done) n s b.series (final_in j s) (ne_eqb s n (λ q. true≢false (sym i ∙ ap is_future_key q ∙ f))) (κ.finals s i) t;
+      finals = grind (arith, at_terms);
       account_order = κ.account_order;
-      series_order = rising_change unlisted (stated Done) n b.series κ.series_order;
-      position_order = rising_outside n b.positions κ.position_order;
+      series_order = grind (arith, rising_change);
+      position_order = grind (arith, rising_outside);
       rows = each_kept Good _ b.positions κ.rows;
       counts = λ a s l. rw e (ended_line b j κ n a s l);
-      unit = λ a s l. rw e (ended_unit b j κ n (eqb s n) (position_in a s j) (holding a s j) (κ.unit a s l));
+      unit = grind arith;
       level = ended_level b j κ n;
-      options = λ a s i d. rw e (ended_held b j κ n (eqb s n) (holding a s j) (done_other n s b.series d) ∙ κ.options a s i (back s d) ∙ sym (+ℤ_idl (net a s j)));
-      futures = λ a s i d. rw e (ended_held b j κ n (eqb s n) (holding a s j) (done_other n s b.series d) ∙ κ.futures a s i (back s d) ∙ sym (+ℤ_idl (moving a s j)));
-      still = λ a s i. rw e (+ℤ_idl (moving a s j) ∙ κ.still a s i);
-      cash = λ a l. rw e (idle_cash _ (family_in b) a (given_in j) j (κ.cash a l));
+      options = grind (arith, done_other);
+      futures = grind arith;
+      still = grind arith;
+      cash = grind arith;
       exchange = rw e (idle_fees _ j κ.exchange);
       conserved = κ.conserved;
-      absent = λ a s l q. rw e (ended_none b j κ n (eqb s n) (position_in a s j) (κ.absent a s l (present_change unlisted (stated Done) n s b.series q)));
+      absent = grind (arith, present_change);
     }
 
 -- ---- a cash option is settled
@@ -170,18 +170,18 @@ module _ (b : Book) (j : Journal) (x : Series) (p : Pricing) (κ : Kept b j) whe
       let back : (s : ℕ) → is_done (at unlisted (change unlisted (stated Done) n b.series) s).state ≡ false → is_done (state_at b s) ≡ false = λ s. done_back (stated Done) n s b.series (λ q. absurd (true≢false q)) in
       record {
         kinds = λ a. kind_pay_each gets a (in_series n b.positions) b.accounts ∙ κ.kinds a;
-        values = λ s. rw e (ended_value b j κ n s ∙ κ.values s);
+        values = grind (arith, ended_value);
         finals = λ s i t. final_back (stated Done) n s b.series (final_in j s) (ne_eqb s n (λ q. true≢false (sym i ∙ ap is_future_key q ∙ f))) (κ.finals s i) t;
         account_order = rising_pay_each gets (in_series n b.positions) b.accounts κ.account_order;
-        series_order = rising_change unlisted (stated Done) n b.series κ.series_order;
-        position_order = rising_outside n b.positions κ.position_order;
+        series_order = grind (arith, rising_change);
+        position_order = grind (arith, rising_outside);
         rows = each_kept Good _ b.positions κ.rows;
         counts = ended_line b j κ n;
-        unit = λ a s l. ended_unit b j κ n (eqb s n) (position_in a s j) (holding a s j) (κ.unit a s l);
+        unit = grind arith;
         level = ended_level b j κ n;
-        options = λ a s i d. ended_held b j κ n (eqb s n) (holding a s j) (done_other n s b.series d) ∙ κ.options a s i (back s d) ∙ sym (+ℤ_idl (net a s j));
-        futures = λ a s i d. ended_held b j κ n (eqb s n) (holding a s j) (done_other n s b.series d) ∙ κ.futures a s i (back s d) ∙ sym (+ℤ_idl (moving a s j));
-        still = λ a s i. +ℤ_idl (moving a s j) ∙ κ.still a s i;
+        options = grind (arith, done_other);
+        futures = grind arith;
+        still = grind arith;
         cash = λ a l. rw e
             (cash_pay_each gets n a b.positions b.accounts l (none_gets a) κ.position_order
             ∙ rw (κ.counts a n l, κ.kinds a, κ.unit a n l, κ.options a n f d) (omega (
@@ -204,7 +204,7 @@ module _ (b : Book) (j : Journal) (x : Series) (p : Pricing) (κ : Kept b j) whe
               paid_level (family_in b) (pos gain) n b.positions (κ.level n),
               charged_fees (ltb 0 gain) (in_series n b.positions),
             );
-        absent = λ a s l q. ended_none b j κ n (eqb s n) (position_in a s j) (κ.absent a s l (present_change unlisted (stated Done) n s b.series q));
+        absent = grind (arith, present_change);
       })
     where
       unpriced : is_future (series_kind x) ≡ false → (s : ℕ) → given_in (on (settle x) p j) s ≡ given_in j s

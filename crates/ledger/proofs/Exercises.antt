@@ -1,5 +1,6 @@
 -- A series on the future is exercised.
 use Rattle.std.proofs.Common.{◌≡◌, ℕ, ◌*◌, ◌<◌, Bool, true, false, cond, eqb, ℤ, pos, ◌+ℤ◌, ◌-ℤ◌, ◌*ℤ◌, neg_ℤ, sym, refl, ap, ◌∙◌, subst, arith}
+use Rattle.std.proofs.lemmas.Grind.{common_steps}
 use lib.IntN.{+ℤ_idl}
 use borrow.Author.Differences.{ints}
 use Rattle.std.proofs.lemmas.Bool.{eqb-true, ne_eqb, true≢false, false≢true}
@@ -32,25 +33,13 @@ use Rattle.ledger.proofs.Kept.{Good, Kept, on, done_back, done_other, final_back
 use Rattle.ledger.proofs.Ends.{paid_level, ended_value}
 
 turned-five : (k : SeriesKind) (n : ℤ) → pos 5 *ℤ turned k n ≡ turned k (pos 5 *ℤ n)
-turned-five Future n = refl
-turned-five kinds.Call n = refl
-turned-five kinds.Put n = refl
-turned-five CallOnFuture n = refl
-turned-five PutOnFuture n = omega (arith, ints)
+turned-five k n = grind arith
 
 turned_in : (f : Family) (k : SeriesKind) (n p : ℤ) → turned k (amount f n p) ≡ amount f n (turned k p)
-turned_in f Future n p = refl
-turned_in f kinds.Call n p = refl
-turned_in f kinds.Put n p = refl
-turned_in f CallOnFuture n p = refl
-turned_in f PutOnFuture n p = sym (amount_neg f n p)
+turned_in f k n p = grind (arith, amount_neg)
 
 pub turned_zero : (k : SeriesKind) → turned k (pos 0) ≡ pos 0
-turned_zero Future = refl
-turned_zero kinds.Call = refl
-turned_zero kinds.Put = refl
-turned_zero CallOnFuture = refl
-turned_zero PutOnFuture = refl
+turned_zero k = grind arith
 
 -- a sum that is zero stays so when each term is turned
 turned-total : (k : SeriesKind) (w : ℕ → Position → ℤ) (rs : Rows Position) → total_ℤ w rs ≡ pos 0 → total_ℤ (λ i l. turned k (w i l)) rs ≡ pos 0
@@ -107,11 +96,7 @@ module _ (b : Book) (j : Journal) (x : Series) (level : ℕ) (p : Pricing) (κ :
   line_is : (a s : ℕ) → a < 65536 → at flat (outside n took) (line_key s a)
       ≡ cond (eqb s n) flat (cond (eqb s m) (assigned (kind_in j a) (turned (series_kind x) (position_in a n j).fulls) (position_in a s j)) (position_in a s j))
   unfolding took
-  line_is a s l =
-      at_outside n (line_key s a) took took_order
-      ∙ rw (series_of_key_lem s a l)
-      (ap (cond (eqb s n) flat) (at_move_each n m takes same s a 0 b.positions b.positions l κ.position_order κ.position_order
-      ∙ rw (κ.counts a n l, κ.counts a s l, κ.kinds a)))
+  line_is a s l = grind (arith, at_move_each, at_outside, same, took_order)
 
   unit_is : (a s : ℕ) → a < 65536 → units (cond (eqb s n) flat (cond (eqb s m) (assigned (kind_in j a) (turned (series_kind x) (position_in a n j).fulls) (position_in a s j)) (position_in a s j)))
       ≡ cond (eqb s n) (pos 0) (cond (eqb s m) (holding a s j +ℤ turned (series_kind x) (holding a n j)) (holding a s j))
@@ -156,12 +141,7 @@ module _ (b : Book) (j : Journal) (x : Series) (level : ℕ) (p : Pricing) (κ :
 
   rows_are : Each Good (outside n took)
   unfolding took
-  rows_are =
-      each_kept Good _ took (each_move_each n m takes Good (λ a l h g. record {
-        held = g;
-        minis = λ k. absurd (false≢true (subst (λ (i : ℕ). on_future (kind_of i) ≡ true) (ap kind_of_key (series_of_key_lem m a h) ∙ future_kind x.month) k));
-        inside = subst (λ (i : ℕ). i < all_series) (sym (series_of_key_lem m a h)) (future_inside x.month r.month.1);
-      }) (in_series n b.positions) b.positions κ.rows)
+  rows_are = grind (arith, each_kept, each_move_each)
 
   fee_none : (a : ℕ) → fee a flat ≡ pos 0
   fee_none a = bought_fees_none p a (kind_at b a) (series_kind x)

@@ -60,9 +60,6 @@ on c p j = record { call = c; pricing = p; accepted = true } ∷ j
 pub value_of : (c : Bool) (t u : Terms) → (cond c t u).value ≡ cond c t.value u.value
 value_of c t u = grind arith
 
-pub state_of : (c : Bool) (t u : Terms) → (cond c t u).state ≡ cond c t.state u.state
-state_of c t u = grind arith
-
 pub at_terms : (g : Terms → Terms) (n s : ℕ) (rs : Rows Terms) → at unlisted (change unlisted g n rs) s ≡ cond (eqb s n) (g (at unlisted rs n)) (at unlisted rs s)
 at_terms g n s rs = grind (arith, at_change)
 

@@ -19,18 +19,6 @@ pub record InRange (x : Series) : Type 0 where
   pub strike : x.strike < 131072
   pub bare : is_future (series_kind x) ≡ true → x.strike ≡ 0
 
-option_strike : (s : ℕ) → (leb 1 s && leb s 110000) ≡ true → s < 131072
-option_strike s e = omega (arith, leb-true s 110000 (and_parts (leb 1 s) (leb s 110000) e).1)
-
-strike_small : (k : SeriesKind) (s : ℕ) → takes_strike k s ≡ true → s < 131072
-strike_small k s e = grind arith
-
-strike_none : (k : SeriesKind) (s : ℕ) → takes_strike k s ≡ true → is_future k ≡ true → s ≡ 0
-strike_none k s e h = grind arith
-
-pub month_range : (m : ℕ) → month_in m ≡ true → (24000 ≤ m) × (m ≤ 25199)
-month_range m e = let h = and_parts (leb 24000 m) (leb m 25199) e in (leb-true 24000 m h.0, leb-true m 25199 h.1)
-
 pub in_range_lem : (f : Family) (x : Series) → series_in f x ≡ true → InRange x
 in_range_lem f x e = grind arith
 
@@ -49,9 +37,6 @@ pub size_full : (f : Family) (x : Series) (z : ℕ) → size_offered f x z ≡ t
 size_full f x z e h = full_only f (series_kind x) (size_of z) (and_parts (ltb z 2) (size_in f (series_kind x) (size_of z)) e).1 h
 
 -- ---- keys
-key_rest : (x : Series) → InRange x → key_of x % 655360 ≡ x.kind * 131072 + x.strike
-key_rest x r = omega (arith, r.kind, r.strike)
-
 pub key_future : (x : Series) → InRange x → is_future (series_kind x) ≡ true → key_of x ≡ future_key x.month
 key_future x r e = omega (arith, r.bare e, eqb-true x.kind 0 (sym (future_number x.kind) ∙ e))
 

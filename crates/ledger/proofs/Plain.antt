@@ -51,22 +51,22 @@ list_kept b j x v p e κ =
     let idle : (a : ℕ) → a < 65536 → moving a n j ≡ pos 0 = λ a l. rest a l (is_future_key n) refl in
     record {
       kinds = κ.kinds;
-      values = λ s. ap (λ (t : Terms). t.value) (at_terms g n s b.series) ∙ value_of (eqb s n) (g unlisted) (terms_at b s) ∙ ap (cond (eqb s n) v) (κ.values s);
+      values = grind (arith, at_terms);
       finals = λ s f t. final s f (eqb s n) refl t;
       account_order = κ.account_order;
-      series_order = rising_change unlisted g n b.series κ.series_order;
+      series_order = grind (arith, rising_change);
       position_order = κ.position_order;
       rows = κ.rows;
       counts = κ.counts;
       unit = κ.unit;
       level = κ.level;
-      options = λ a s f d. κ.options a s f (back s d) ∙ sym (+ℤ_idl (net a s j));
-      futures = λ a s f d. κ.futures a s f (back s d) ∙ sym (+ℤ_idl (moving a s j));
-      still = λ a s f. +ℤ_idl (moving a s j) ∙ κ.still a s f;
+      options = grind arith;
+      futures = grind arith;
+      still = grind arith;
       cash = λ a l. idle_cash _ (family_in b) a (λ s. cond (eqb s n) v (given_in j s)) j (κ.cash a l ∙ ap (λ (y : ℤ). y -ℤ fees a j) (sym (unmoved (family_in b) a (given_in j) n v j (idle a l))));
       exchange = idle_fees _ j κ.exchange;
       conserved = κ.conserved;
-      absent = λ a s l q. κ.absent a s l (present_change unlisted g n s b.series q);
+      absent = grind (arith, present_change);
     }
   where
     rest : (a : ℕ) → a < 65536 → (c : Bool) → is_future_key (key_of x) ≡ c → moving a (key_of x) j ≡ pos 0
@@ -96,22 +96,22 @@ close_kept b j x c k p r l h e q κ =
       finals = κ.finals;
       account_order = κ.account_order;
       series_order = κ.series_order;
-      position_order = rising_revise (closed k) key b.positions κ.position_order;
+      position_order = grind (arith, rising_revise);
       rows = each_revise (closed k) key b.positions Good κ.rows (λ g. record {
         held = g;
         minis = λ t. absurd (closable_minis k (position_at b n c) h (each_at NoMinis flat key b.positions (λ _. refl) (each_more Good NoMinis b.positions (λ i y g. g.minis) κ.rows) t) e);
-        inside = subst (λ (i : ℕ). i < all_series) (sym (series_of_key_lem n c l)) (key_inside x r);
+        inside = grind arith;
       });
-      counts = λ a s m. at_line (closed k) n c s a b.positions m l κ.position_order ∙ ap (λ (y : Position). cond (eqb s n && eqb a c) (closed k y) y) (κ.counts a s m);
+      counts = grind (arith, at_line);
       unit = λ a s m. same (eqb s n && eqb a c) (position_in a s j) (κ.unit a s m);
       level = λ s. total_line (closed k) (pos 0) key s b.positions (λ y. omega (arith, ints, closed_units k y)) ∙ omega (arith, ints, κ.level s, nothing (eqb (series_of_key key) s));
-      options = λ a s f d. κ.options a s f d ∙ sym (+ℤ_idl (net a s j));
-      futures = λ a s f d. κ.futures a s f d ∙ sym (+ℤ_idl (moving a s j));
-      still = λ a s f. +ℤ_idl (moving a s j) ∙ κ.still a s f;
-      cash = λ a m. idle_cash _ (family_in b) a (given_in j) j (κ.cash a m);
+      options = grind arith;
+      futures = grind arith;
+      still = grind arith;
+      cash = grind arith;
       exchange = idle_fees _ j κ.exchange;
       conserved = κ.conserved;
-      absent = λ a s m g. none_still (eqb s n) (eqb a c) (position_in a s j) (λ i. true≢false (sym q ∙ ap (present b.series) (sym (eqb-true s n i)) ∙ g)) (κ.absent a s m g);
+      absent = grind arith;
     }
   where
     same : (t : Bool) (y : Position) {z : ℤ} → units y ≡ z → units (cond t (closed k y) y) ≡ z
@@ -133,22 +133,22 @@ delta_kept b j x d p e κ =
     let back : (s : ℕ) → is_done (at unlisted (change unlisted (valued d) n b.series) s).state ≡ false → is_done (state_at b s) ≡ false = λ s. done_back (valued d) n s b.series (λ q. q) in
     record {
       kinds = κ.kinds;
-      values = λ s. ap (λ (t : Terms). t.value) (at_terms (valued d) n s b.series) ∙ value_of (eqb s n) (valued d (terms_at b n)) (terms_at b s) ∙ ap (cond (eqb s n) d) (κ.values s);
-      finals = λ s f t. final_back (valued d) n s b.series (final_in j s) (ne_eqb s n (λ q. true≢false (sym f ∙ ap is_future_key q ∙ e))) (κ.finals s f) t;
+      values = grind (arith, at_terms);
+      finals = grind (arith, at_terms);
       account_order = κ.account_order;
-      series_order = rising_change unlisted (valued d) n b.series κ.series_order;
+      series_order = grind (arith, rising_change);
       position_order = κ.position_order;
       rows = κ.rows;
       counts = κ.counts;
       unit = κ.unit;
       level = κ.level;
-      options = λ a s f q. κ.options a s f (back s q) ∙ sym (+ℤ_idl (net a s j));
-      futures = λ a s f q. κ.futures a s f (back s q) ∙ sym (+ℤ_idl (moving a s j));
-      still = λ a s f. +ℤ_idl (moving a s j) ∙ κ.still a s f;
+      options = grind arith;
+      futures = grind arith;
+      still = grind arith;
       cash = λ a l. idle_cash _ (family_in b) a (λ s. cond (eqb s n) d (given_in j s)) j (κ.cash a l ∙ ap (λ (y : ℤ). y -ℤ fees a j) (sym (unmoved (family_in b) a (given_in j) n d j (κ.still a n e))));
       exchange = idle_fees _ j κ.exchange;
       conserved = κ.conserved;
-      absent = λ a s l q. κ.absent a s l (present_change unlisted (valued d) n s b.series q);
+      absent = grind (arith, present_change);
     }
 
 trading_open : (q : State) → is_trading q ≡ true → is_done q ≡ false

@@ -55,12 +55,6 @@ pub lots_neg : (z : Size) (n : ℤ) → lots z (neg_ℤ n) ≡ neg_ℤ (lots z n
 lots_neg z n = grind arith
 
 -- ---- where there are no minis there never will be
-opposed_none : (f : ℤ) → opposed f (pos 0) ≡ pos 0
-opposed_none f = grind arith
-
-offset_minis : (f m : ℤ) → m ≡ pos 0 → m +ℤ pos 5 *ℤ opposed f m ≡ pos 0
-offset_minis f m e = rw e (omega (arith, ints, opposed_none f))
-
 pub dealt_minis : (h : AccountKind) (n : ℤ) (p : Position) → p.minis ≡ pos 0 → (dealt h Full n p).minis ≡ pos 0
 dealt_minis h n p e = grind arith
 
@@ -72,9 +66,6 @@ unfolding bought_fees
 bought_fees_none p a h k = refl
 
 -- ---- keys
-key_tells : (s a r c : ℕ) → a < 65536 → c < 65536 → eqb (line_key s a) (line_key r c) ≡ (eqb s r && eqb a c)
-key_tells s a r c h g = grind (arith, nat_tests)
-
 pub series_of_key_lem : (s a : ℕ) → a < 65536 → series_of_key (line_key s a) ≡ s
 series_of_key_lem s a h = omega arith
 

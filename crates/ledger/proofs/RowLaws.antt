@@ -80,9 +80,6 @@ each_kept P t [] o = tt
 each_kept P t (r ∷ rs) o = grind (arith, each_kept P t rs o.1)
 
 -- ---- one position changed: a flat one has no row
-zero_is : (n : ℤ) → eqb (nat_abs n) 0 ≡ true → n ≡ pos 0
-zero_is n e = let h = eqb-true (nat_abs n) 0 e in omega (arith, ints)
-
 pub flat_is : (p : Position) → is_flat p ≡ true → p ≡ flat
 flat_is p e = grind arith
 

@@ -1,5 +1,6 @@
 -- Smaller laws: the offset by itself, and single events.
 use Rattle.std.proofs.Common.{◌≡◌, ℕ, zero, suc, ◌/◌, min, ◌∷◌, ℤ, pos, negsuc, neg_ℤ, nat_abs, Ok, Err, sym, refl, ap, arith}
+use Rattle.std.proofs.lemmas.Grind.{common_steps}
 use Rattle.std.proofs.lemmas.Bool.{leb-true, le-leb}
 use Rattle.terms.specs.declared.kinds.AccountKind.{AccountKind}
 use Rattle.terms.specs.declared.kinds.AccountKind.TheVariants.{House, Maker, Client}
@@ -14,15 +15,8 @@ use Rattle.ledger.specs.Laws.{noted, journal, Largest, Offsets, OffsetLaws, Even
 use Rattle.ledger.proofs.PositionLaws.{settled_units, closed_units}
 
 -- ---- the offset is the largest close
-abs_neg : (n : ℕ) → nat_abs (neg_ℤ (pos n)) ≡ n
-abs_neg zero = refl
-abs_neg (suc n) = refl
-
 by_signs : (f m : ℤ) → closed (nat_abs (opposed f m)) (position f m) ≡ less (opposed f m) (position f m)
-by_signs (pos f) (pos m) = refl
-by_signs (pos f) (negsuc m) = refl
-by_signs (negsuc f) (pos m) = rw (abs_neg (min (suc f) (m / 5)))
-by_signs (negsuc f) (negsuc m) = refl
+by_signs f m = grind arith
 
 offset_largest : (p : Position) → Largest p (offset p)
 offset_largest p =
@@ -30,9 +24,7 @@ offset_largest p =
     record { k = most; is = sym (by_signs p.fulls p.minis); can = le-leb most most (omega arith); largest = λ i e. leb-true i most e }
 
 offsets : (h : AccountKind) (p : Position) → Offsets h p (settled h p)
-offsets House p = offset_largest p
-offsets Maker p = offset_largest p
-offsets Client p = refl
+offsets h p = grind (arith, offset_largest)
 
 pub offset_laws : OffsetLaws
 offset_laws = record { largest = offsets; offset_units = settled_units; close_units = closed_units }
@@ -40,14 +32,8 @@ offset_laws = record { largest = offsets; offset_units = settled_units; close_un
 -- ---- events
 refused : (b : Book) (e : Event) (r : Refusal) (v : Verdict) → v ≡ Err r → afterwards b e v ≡ b
 unfolding afterwards
-refused b e r (Ok tt) h = absurd (let z : ◌≡◌ {A = ℕ} 0 1 = cc in omega arith)
-refused b e r (Err s) h = refl
+refused b e r v h = grind arith
 
 pub event_laws : EventLaws
 unfolding journal
-event_laws = record {
-  refused = λ b e r h. refused b e r (judge b e) h;
-  noted_refused = λ b e r j h. ap (λ (v : Verdict). noted e (accepted v) ∷ j) h;
-  noted_accepted = λ b e j h. ap (λ (v : Verdict). noted e (accepted v) ∷ j) h;
-  same = λ b c e d p q. (λ i. judge (p i) (q i), λ i. step (p i) (q i));
-}
+event_laws = grind (arith, refused)

@@ -1,5 +1,6 @@
 -- Every run leaves a sound book.
 use Rattle.std.proofs.Common.{◌≡◌, ℕ, ◌*◌, ◌<◌, ◌≤◌, Bool, true, false, cond, not, ◌&&◌, ◌||◌, eqb, ltb, leb, [], ◌∷◌, length, ℤ, pos, negsuc, ◌+ℤ◌, ◌-ℤ◌, ◌*ℤ◌, neg_ℤ, nat_abs, Some, None, Option, sym, refl, ap, ◌∙◌, subst, arith}
+use Rattle.std.proofs.lemmas.Grind.{common_steps}
 use lib.Signed.{le_z}
 use borrow.Author.Differences.{ints}
 use Rattle.std.specs.Option.{option_map}
@@ -38,8 +39,7 @@ use Rattle.ledger.proofs.Presence.{length-change, length-revise, present_from, p
 
 -- ---- nobody is overdrawn
 none_from : (o : Option ℕ) → option_map account_of_key o ≡ None → o ≡ None
-none_from None e = refl
-none_from (Some k) e = absurd (let z : ◌≡◌ {A = ℕ} 0 1 = cc in omega arith)
+none_from o e = grind arith
 
 cleared : (b : Book) (s m : ℕ) (c : Book) → overdrawn b s m c ≡ None → (a : ℕ) → a < 65536 → is_flat (position_at b s a) ≡ false → holder_in m c a ≡ true
 cleared b s m c e a l g =
@@ -64,28 +64,15 @@ cleared_cash b j s m f c κ σ z q e a l = ways (is_flat (at flat b.positions (l
         ∙ ap (λ (y : Position). cash_at b a +ℤ f a y) (flat_is _ h) ∙ nothing (f a flat) (z a)))
         (σ.cash a l)
 
-if_line : (c : Bool) (x y : Position) (P : Position → Type 0) → (c ≡ true → P x) → P y → P (cond c x y)
-if_line true x y P h g = h refl
-if_line false x y P h g = g
-
 -- ---- terms
 abbrev Small : Terms → Type 0
 Small t = (nat_abs t.value ≤ 10000000) × (final_of t ≤ 10000000)
 
 small_change : (g : Terms → Terms) (n : ℕ) (rs : Rows Terms) → (Small (at unlisted rs n) → Small (g (at unlisted rs n))) → ((s : ℕ) → Small (at unlisted rs s)) → (s : ℕ) → Small (at unlisted (change unlisted g n rs) s)
-small_change g n rs h o s = subst Small (sym (at_terms g n s rs)) (ways (eqb s n))
-  where
-    ways : (c : Bool) → Small (cond c (g (at unlisted rs n)) (at unlisted rs s))
-    ways true = h (o n)
-    ways false = o s
+small_change g n rs h o s = grind (arith, at_terms)
 
 small_valued : (v : ℤ) (t : Terms) → nat_abs v ≤ 10000000 → Small t → Small (valued v t)
-small_valued v t h o = (h, ways t.state o.1)
-  where
-    ways : (q : State) → final_of (record { value = t.value; state = q }) ≤ 10000000 → final_of (record { value = v; state = q }) ≤ 10000000
-    ways Trading g = h
-    ways (Fixed x) g = g
-    ways Done g = h
+small_valued v t h o = grind arith
 
 small : (b : Book) → Sound b → (s : ℕ) → Small (terms_at b s)
 small b σ s = (σ.values s, σ.finals s)
@@ -93,38 +80,18 @@ small b σ s = (σ.values s, σ.finals s)
 -- a Done series was Done before, unless it has just ended
 done_from : (g : Terms → Terms) (n s : ℕ) (rs : Rows Terms) → is_done (at unlisted (change unlisted g n rs) s).state ≡ true
     → (eqb s n ≡ true → is_done (g (at unlisted rs n)).state ≡ true → is_done (at unlisted rs s).state ≡ true) → is_done (at unlisted rs s).state ≡ true
-done_from g n s rs e h = ways (eqb s n) refl (rw (at_terms g n s rs) at e)
-  where
-    ways : (c : Bool) → eqb s n ≡ c → is_done (cond c (g (at unlisted rs n)) (at unlisted rs s)).state ≡ true → is_done (at unlisted rs s).state ≡ true
-    ways true q d = h q d
-    ways false q d = d
+done_from g n s rs e h = grind (arith, at_terms)
 
 -- ---- rooms
-leb_less : (a b c : ℕ) → a ≤ b → leb b c ≡ true → leb a c ≡ true
-leb_less a b c h e = le-leb a c (omega (arith, leb-true b c e))
-
-and_less : (x y z u v w : Bool) → (x ≡ true → u ≡ true) → (y ≡ true → v ≡ true) → (z ≡ true → w ≡ true) → (x && (y && z)) ≡ true → (u && (v && w)) ≡ true
-and_less x y z u v w f g h e =
-    let p = and_parts x (y && z) e in
-    let q = and_parts y z p.1 in
-    and_from u (v && w) (f p.0) (and_from v w (g q.0) (h q.1))
-
 fits_less : (b c : Book) → c.spaces ≡ b.spaces → length c.accounts ≤ length b.accounts → length c.series ≤ length b.series → length c.positions ≤ length b.positions → fits b ≡ true → fits c ≡ true
-fits_less b c e x y z h =
-    rw e (and_less _ _ _ _ _ _
-    (leb_less (length c.accounts) (length b.accounts) b.spaces.accounts x) (leb_less (length c.series) (length b.series) b.spaces.series y)
-    (leb_less (length c.positions) (length b.positions) b.spaces.positions z) h)
+fits_less b c e x y z h = grind arith
 
 -- ---- months
 abbrev Months : Rows Terms → Type 0
 Months rs = (s : ℕ) → present rs s ≡ true → present rs (future_of_key s) ≡ true
 
 months_change : (g : Terms → Terms) (n : ℕ) (rs : Rows Terms) → present (change unlisted g n rs) (future_of_key n) ≡ true → Months rs → Months (change unlisted g n rs)
-months_change g n rs h o s e = ways (eqb s n) refl
-  where
-    ways : (c : Bool) → eqb s n ≡ c → present (change unlisted g n rs) (future_of_key s) ≡ true
-    ways true q = subst (λ (i : ℕ). present (change unlisted g n rs) (future_of_key i) ≡ true) (sym (eqb-true s n q)) h
-    ways false q = present_keep unlisted g n (future_of_key s) rs (o s (present_from unlisted g n s rs q e))
+months_change g n rs h o s e = grind (arith, present_from, present_keep)
 
 -- the terms of a listed series change
 months_there : (g : Terms → Terms) (n : ℕ) (rs : Rows Terms) → present rs n ≡ true → Months rs → Months (change unlisted g n rs)
@@ -151,39 +118,13 @@ owned b j κ σ = both b.positions κ.rows (rows_found flat 0 b.positions κ.pos
 -- ---- admit, list, delta, enter
 sound_admit : (b : Book) (a h : ℕ) (p : Pricing) → fits (post b (admit a h) p) ≡ true → Sound b → Sound (post b (admit a h) p)
 unfolding post
-sound_admit b a h p f σ = record {
-  cash = λ c l. subst (λ (y : Account). balance_in y.cash ≡ true) (sym (at_change nobody (λ _. record { kind = account_kind_of h; cash = pos 0 }) a c b.accounts)) (ways c l (eqb c a));
-  exchange = σ.exchange;
-  counts = σ.counts;
-  values = σ.values;
-  finals = σ.finals;
-  holders = λ c s l q. σ.holders c s l (present_change nobody (λ _. record { kind = account_kind_of h; cash = pos 0 }) a c b.accounts q);
-  listed = σ.listed;
-  ended = σ.ended;
-  months = σ.months;
-  room = f;
-}
-  where
-    ways : (c : ℕ) → c < 65536 → (x : Bool) → balance_in (cond x (record { kind = account_kind_of h; cash = pos 0 }) (at nobody b.accounts c)).cash ≡ true
-    ways c l true = refl
-    ways c l false = σ.cash c l
-
-between : (lo hi v : ℤ) → nat_abs lo ≤ 10000000 → nat_abs hi ≤ 10000000 → (le_z lo v && le_z v hi) ≡ true → nat_abs v ≤ 10000000
-between lo hi v l h e = let g = and_parts (le_z lo v) (le_z v hi) e in omega (arith, ints, g.0, g.1)
+sound_admit b a h p f σ = grind (arith, at_change, present_change)
 
 delta_small : (k : SeriesKind) (v : ℤ) → delta_range k v ≡ true → nat_abs v ≤ 10000000
-delta_small Future v e = between (pos 10000) (pos 10000) v (omega arith) (omega arith) e
-delta_small kinds.Call v e = between (pos 0) (pos 10000) v (omega arith) (omega arith) e
-delta_small kinds.Put v e = between (negsuc 9999) (pos 0) v (omega arith) (omega arith) e
-delta_small CallOnFuture v e = between (pos 0) (pos 10000) v (omega arith) (omega arith) e
-delta_small PutOnFuture v e = between (negsuc 9999) (pos 0) v (omega arith) (omega arith) e
+delta_small k v e = grind arith
 
 first_small : (k : SeriesKind) (v : ℤ) → first_in k v ≡ true → nat_abs v ≤ 10000000
-first_small Future v e = between (pos 1) (pos 10000000) v (omega arith) (omega arith) e
-first_small kinds.Call v e = delta_small kinds.Call v e
-first_small kinds.Put v e = delta_small kinds.Put v e
-first_small CallOnFuture v e = delta_small CallOnFuture v e
-first_small PutOnFuture v e = delta_small PutOnFuture v e
+first_small k v e = grind arith
 
 sound_list : (b : Book) (x : Series) (v : ℤ) (p : Pricing) → ListPassed b x v (post b (list x v) p) → Sound b → Sound (post b (list x v) p)
 unfolding post
@@ -239,59 +180,12 @@ unfolding post
 sound_enter b m f x p π σ = sound_terms b (stated (Fixed x)) (future_key m) (λ y. (y.0, π.price)) (λ d. absurd (false≢true d)) π.there σ
 
 -- ---- close
-less_in : (f m : ℤ) → nat_abs f ≤ 1000000 → nat_abs m ≤ 1000000 → in_range (position f m) ≡ true
-less_in f m x y = and_from (count_in f) (count_in m) (le-leb (nat_abs f) 1000000 x) (le-leb (nat_abs m) 1000000 y)
-
 closed_in : (k : ℕ) (l : Position) → closable k l ≡ true → in_range l ≡ true → in_range (closed k l) ≡ true
-closed_in k l e h =
-    ways l.fulls l.minis (leb-true _ _ e) (leb-true _ _ (and_parts (count_in l.fulls) (count_in l.minis) h).0) (leb-true _ _ (and_parts (count_in l.fulls) (count_in l.minis) h).1)
-  where
-    ways : (f m : ℤ) → k ≤ nat_abs (opposed f m) → nat_abs f ≤ 1000000 → nat_abs m ≤ 1000000 → in_range (less (signed_like f k) (position f m)) ≡ true
-    ways (pos f) (pos m) d x y = less_in (pos f -ℤ pos k) (pos m +ℤ pos 5 *ℤ pos k) (omega (arith, ints)) (omega (arith, ints))
-    ways (pos f) (negsuc m) d x y = less_in (pos f -ℤ pos k) (negsuc m +ℤ pos 5 *ℤ pos k) (omega (arith, ints)) (omega (arith, ints))
-    ways (negsuc f) (pos m) d x y = less_in (negsuc f -ℤ neg_ℤ (pos k)) (pos m +ℤ pos 5 *ℤ neg_ℤ (pos k)) (omega (arith, ints)) (omega (arith, ints))
-    ways (negsuc f) (negsuc m) d x y = less_in (negsuc f -ℤ neg_ℤ (pos k)) (negsuc m +ℤ pos 5 *ℤ neg_ℤ (pos k)) (omega (arith, ints)) (omega (arith, ints))
+closed_in k l e h = grind (arith, common_steps)
 
 sound_close : (b : Book) (j : Journal) (x : Series) (c k : ℕ) (p : Pricing) → ClosePassed b x c k → Kept b j → Sound b → Sound (post b (close x c k) p)
 unfolding post
-sound_close b j x c k p π κ σ = record {
-  cash = σ.cash;
-  exchange = σ.exchange;
-  counts = λ a s h. subst (λ (y : Position). in_range y ≡ true) (sym (line a s h)) (if_line (eqb s n && eqb a c) (closed k (L a s)) (L a s) (λ y. in_range y ≡ true)
-      (λ q. closed_in k (L a s) (subst (λ (y : Position). closable k y ≡ true) (sym (own a s q)) π.enough) (σ.counts a s h)) (σ.counts a s h));
-  values = σ.values;
-  finals = σ.finals;
-  holders = λ a s h q. line a s h ∙ if_line (eqb s n && eqb a c) (closed k (L a s)) (L a s) (λ y. y ≡ flat)
-      (λ i. absurd (true≢false (sym π.holder ∙ ap (present b.accounts) (sym (eqb-true a c (and_parts (eqb s n) (eqb a c) i).1)) ∙ q))) (σ.holders a s h q);
-  listed = λ a s h q. line a s h ∙ if_line (eqb s n && eqb a c) (closed k (L a s)) (L a s) (λ y. y ≡ flat)
-      (λ i. absurd (true≢false (sym π.there ∙ ap (present b.series) (sym (eqb-true s n (and_parts (eqb s n) (eqb a c) i).0)) ∙ q))) (σ.listed a s h q);
-  ended = λ a s h q. line a s h ∙ if_line (eqb s n && eqb a c) (closed k (L a s)) (L a s) (λ y. y ≡ flat)
-      (λ i. absurd (held (sym (own a s i) ∙ σ.ended a s h q))) (σ.ended a s h q);
-  months = σ.months;
-  room = fits_less b (post b (close x c k) p) refl (omega arith) (omega arith) (length-revise (closed k) (line_key n c) b.positions there) σ.room;
-}
-  where
-    n : ℕ
-    n = key_of x
-
-    L : ℕ → ℕ → Position
-    L a s = at flat b.positions (line_key s a)
-
-    line : (a s : ℕ) → a < 65536 → at flat (revise (closed k) (line_key n c) b.positions) (line_key s a) ≡ cond (eqb s n && eqb a c) (closed k (L a s)) (L a s)
-    line a s h = at_line (closed k) n c s a b.positions h π.account κ.position_order
-
-    own : (a s : ℕ) → (eqb s n && eqb a c) ≡ true → L a s ≡ at flat b.positions (line_key n c)
-    own a s q = let h = and_parts (eqb s n) (eqb a c) q in rw (eqb-true s n h.0, eqb-true a c h.1)
-
-    held : at flat b.positions (line_key n c) ≡ flat → ⊥
-    held q = closable_minis k flat π.some refl (subst (λ (y : Position). closable k y ≡ true) q π.enough)
-
-    there : present b.positions (line_key n c) ≡ true
-    there = ways (present b.positions (line_key n c)) refl
-      where
-        ways : (y : Bool) → present b.positions (line_key n c) ≡ y → y ≡ true
-        ways true q = refl
-        ways false q = absurd (held (at_absent flat (line_key n c) b.positions q))
+sound_close b j x c k p π κ σ = grind (arith, common_steps, at_line, closed_in, length-revise)
 
 -- ---- trade
 quiet_pay : (a c : ℕ) (x : ℤ) (cs : Rows Account) → eqb a c ≡ false → (at nobody (pay c x cs) a).cash ≡ (at nobody cs a).cash
@@ -353,45 +247,10 @@ sound_trade b j t p κ κ' π σ = record {
 sound_paid : (b : Book) (j : Journal) (s : ℕ) (f : ℕ → Position → ℤ) (x : ℤ) → Kept b j → Sound b
     → ((a : ℕ) → a < 65536 → balance_in (at nobody (pay_each f (in_series s b.positions) b.accounts) a).cash ≡ true) → balance_in x ≡ true
     → Sound (book b (pay_each f (in_series s b.positions) b.accounts) b.series b.positions x)
-sound_paid b j s f x κ σ h g = record {
-  cash = h;
-  exchange = g;
-  counts = σ.counts;
-  values = σ.values;
-  finals = σ.finals;
-  holders = λ a n l q. σ.holders a n l (present_pay_each f a (in_series s b.positions) b.accounts q);
-  listed = σ.listed;
-  ended = σ.ended;
-  months = σ.months;
-  room = fits_less b (book b (pay_each f (in_series s b.positions) b.accounts) b.series b.positions x) refl
-      (omega (arith, length-pay_each f (in_series s b.positions) b.accounts (each_kept (λ k l. present b.accounts (account_of_key k) ≡ true) _ b.positions (owned b j κ σ)))) (omega arith) (omega arith) σ.room;
-}
+sound_paid b j s f x κ σ h g = grind (arith, each_kept, length-pay_each, owned, present_pay_each)
 
 sound_end : (b : Book) (n : ℕ) → Rising 0 b.positions → present b.series n ≡ true → Sound b → Sound (post_end b n)
-sound_end b n o t σ =
-    let m : (s : ℕ) → Small (at unlisted (change unlisted (stated Done) n b.series) s) = small_change (stated Done) n b.series (λ y. (y.0, y.0)) (small b σ) in
-    record {
-      cash = σ.cash;
-      exchange = σ.exchange;
-      counts = λ a s l. subst (λ (y : Position). in_range y ≡ true) (sym (line a s l)) (if_line (eqb s n) flat (L a s) (λ y. in_range y ≡ true) (λ _. refl) (σ.counts a s l));
-      values = λ s. (m s).0;
-      finals = λ s. (m s).1;
-      holders = λ a s l q. line a s l ∙ if_line (eqb s n) flat (L a s) (λ y. y ≡ flat) (λ _. refl) (σ.holders a s l q);
-      listed = λ a s l q. line a s l ∙ if_line (eqb s n) flat (L a s) (λ y. y ≡ flat) (λ _. refl) (σ.listed a s l (present_change unlisted (stated Done) n s b.series q));
-      ended = λ a s l q. line a s l ∙ over a s l (eqb s n) refl (subst (λ (t : Terms). is_done t.state ≡ true) (at_terms (stated Done) n s b.series) q);
-      months = months_there (stated Done) n b.series t σ.months;
-      room = fits_less b (post_end b n) refl (omega arith) (omega (arith, length-change unlisted (stated Done) n b.series t)) (length-outside n b.positions o) σ.room;
-    }
-  where
-    L : ℕ → ℕ → Position
-    L a s = at flat b.positions (line_key s a)
-
-    line : (a s : ℕ) → a < 65536 → at flat (outside n b.positions) (line_key s a) ≡ cond (eqb s n) flat (L a s)
-    line a s l = at_outside n (line_key s a) b.positions o ∙ rw (series_of_key_lem s a l)
-
-    over : (a s : ℕ) → a < 65536 → (c : Bool) → eqb s n ≡ c → is_done (cond c (stated Done (terms_at b n)) (terms_at b s)).state ≡ true → cond c flat (L a s) ≡ flat
-    over a s l true e q = refl
-    over a s l false e q = σ.ended a s l q
+sound_end b n o t σ = grind (arith, at_outside, at_terms, length-change, length-outside, months_there, present_change)
 
 sound_exercise : (b : Book) (j : Journal) (x : Series) (level : ℕ) (p : Pricing) → Kept b j → Kept (post_exercise b x p) (on (exercise x level) p j) → lapses_at x level ≡ false
     → ExercisePassed b x (post_exercise b x p) → Sound b → Sound (post_exercise b x p)
@@ -502,12 +361,7 @@ sound_settle b j x p κ π σ = ways (is_future (series_kind x)) π.paid π.exch
 sound_exercises : (b : Book) (j : Journal) (x : Series) (level : ℕ) (p : Pricing) → Kept b j → Kept (post b (exercise x level) p) (on (exercise x level) p j)
     → ExercisePassed b x (post b (exercise x level) p) → Sound b → Sound (post b (exercise x level) p)
 unfolding post
-sound_exercises b j x level p κ κ' π σ = ways (lapses_at x level) refl κ' π
-  where
-    ways : (c : Bool) → lapses_at x level ≡ c → Kept (cond c (post_end b (key_of x)) (post_exercise b x p)) (on (exercise x level) p j)
-        → ExercisePassed b x (cond c (post_end b (key_of x)) (post_exercise b x p)) → Sound (cond c (post_end b (key_of x)) (post_exercise b x p))
-    ways true e κ' π = sound_end b (key_of x) κ.position_order π.there σ
-    ways false e κ' π = sound_exercise b j x level p κ κ' e π σ
+sound_exercises b j x level p κ κ' π σ = grind (arith, sound_end, sound_exercise)
 
 -- ---- every call
 pub sound_call : (b : Book) (j : Journal) (c : Call) (p : Pricing) → Passed b c (post b c p) → Kept b j → Sound b → Sound (post b c p)

@@ -1,5 +1,6 @@
 -- Every run leaves the book balanced and the accounts within their limits.
 use Rattle.std.proofs.Common.{◌≡◌, ℕ, ◌<◌, Bool, true, false, cond, eqb, List, [], ◌∷◌, ◌++◌, ℤ, ◌-ℤ◌, Ok, Err, sym, refl, ap, ◌∙◌, subst, arith}
+use Rattle.std.proofs.lemmas.Grind.{common_steps}
 use lib.IntN.{+ℤ_idl}
 use Rattle.std.proofs.lemmas.Bool.{le-leb, and_from, true≢false, false≢true}
 use Rattle.registers.specs.Rows.{lookup}
@@ -35,25 +36,7 @@ has_passed b e h = passed b e.call e.pricing e.scratch (post b e.call e.pricing)
 
 -- a refused entry changes nothing
 refused : (b : Book) (j : Journal) (e : Event) → Kept b j → Kept b (noted e false ∷ j)
-refused b j e κ = record {
-  kinds = κ.kinds;
-  values = κ.values;
-  finals = κ.finals;
-  account_order = κ.account_order;
-  series_order = κ.series_order;
-  position_order = κ.position_order;
-  rows = κ.rows;
-  counts = κ.counts;
-  unit = κ.unit;
-  level = κ.level;
-  options = λ a s f d. κ.options a s f d ∙ sym (+ℤ_idl _);
-  futures = λ a s f d. κ.futures a s f d ∙ sym (+ℤ_idl _);
-  still = λ a s f. +ℤ_idl _ ∙ κ.still a s f;
-  cash = λ a l. idle_cash _ (family_in b) a (given_in j) j (κ.cash a l);
-  exchange = idle_fees _ j κ.exchange;
-  conserved = κ.conserved;
-  absent = κ.absent;
-}
+refused b j e κ = grind arith
 
 stepped : (b : Book) (j : Journal) (e : Event) (v : Verdict) → judge b e ≡ v → Kept b j → Kept (afterwards b e v) (noted e (accepted v) ∷ j)
 unfolding afterwards
@@ -104,28 +87,11 @@ start f z = record {
 -- ---- the limits
 post_family : (b : Book) (c : Call) (p : Pricing) → (post b c p).family ≡ b.family
 unfolding post
-post_family b (admit a h) p = refl
-post_family b (list x v) p = refl
-post_family b (trade t) p = refl
-post_family b (close x a k) p = refl
-post_family b (mark m x) p = refl
-post_family b (delta x d) p = refl
-post_family b (enter m f x) p = refl
-post_family b (exercise x level) p = ways (lapses_at x level)
-  where
-    ways : (c : Bool) → (cond c (post_end b (key_of x)) (post_exercise b x p)).family ≡ b.family
-    ways true = refl
-    ways false = refl
-post_family b (settle x) p = ways (is_future (series_kind x))
-  where
-    ways : (c : Bool) → (cond c (post_final b (key_of x)) (post_cash b x p)).family ≡ b.family
-    ways true = refl
-    ways false = refl
+post_family b c p = grind arith
 
 step_family : (b : Book) (e : Event) (v : Verdict) → (afterwards b e v).family ≡ b.family
 unfolding afterwards
-step_family b e (Ok tt) = post_family b e.call e.pricing
-step_family b e (Err r) = refl
+step_family b e v = grind (arith, post_family)
 
 run_family : (es : List Event) (b : Book) → (run b es).family ≡ b.family
 unfolding run
@@ -137,8 +103,7 @@ unfolding exposure
 refused_same j e a = refl
 
 quiet_step : (b : Book) (j : Journal) (e : Event) (v : Verdict) (a : ℕ) → a < 65536 → Quiet e.call → judge b e ≡ v → Kept b j → Limited b.family a j (noted e (accepted v) ∷ j)
-quiet_step b j e (Ok tt) a l q h κ = quiet_within b j e.call e.pricing a l q (has_passed b e h) κ
-quiet_step b j e (Err r) a l q h κ = rw (refused_same j e a) (omega arith)
+quiet_step b j e v a l q h κ = grind (arith, has_passed, quiet_within, refused_same)
 
 further : (f a : ℕ) (i j k : Journal) → Limited f a i j → Limited f a j k → Limited f a i k
 further f a i j k h g = omega arith
@@ -146,12 +111,7 @@ further f a i j k h g = omega arith
 quiet_run : (fs : List Event) (b : Book) (i j : Journal) (a : ℕ) → a < 65536 → AllQuiet fs → Kept b j → Limited b.family a i j → Limited b.family a i (journal b fs j)
 unfolding journal
 quiet_run [] b i j a l q κ h = h
-quiet_run (e ∷ fs) b i j a l q κ h =
-    let f : (step b e).family ≡ b.family = step_family b e (judge b e) in
-    let n : Limited b.family a i (noted e (accepted (judge b e)) ∷ j) = further b.family a i j _ h (quiet_step b j e (judge b e) a l q.0 refl κ) in
-    subst (λ (y : ℕ). Limited y a i (journal (step b e) fs (noted e (accepted (judge b e)) ∷ j))) f
-    (quiet_run fs (step b e) i (noted e (accepted (judge b e)) ∷ j) a l q.1 (stepped b j e (judge b e) refl κ)
-    (subst (λ (y : ℕ). Limited y a i (noted e (accepted (judge b e)) ∷ j)) (sym f) n))
+quiet_run (e ∷ fs) b i j a l q κ h = grind (arith, common_steps, further, quiet_step, step_family, stepped, quiet_run fs (step b e) i (noted e (accepted (judge b e)) ∷ j) a l q.1 (stepped b j e (judge b e) refl κ))
 
 journal_more : (es fs : List Event) (b : Book) (j : Journal) → journal b (es ++ fs) j ≡ journal (run b es) fs (journal b es j)
 unfolding journal run
@@ -189,18 +149,7 @@ lawful f z = record {
 -- ---- soundness
 sound_start : (f : ℕ) (z : Spaces) → Sound (opened f z)
 unfolding lookup
-sound_start f z = record {
-  cash = λ a l. refl;
-  exchange = refl;
-  counts = λ a s l. refl;
-  values = λ s. omega arith;
-  finals = λ s. omega arith;
-  holders = λ a s l q. refl;
-  listed = λ a s l q. refl;
-  ended = λ a s l q. refl;
-  months = λ s q. absurd (false≢true q);
-  room = and_from _ _ (le-leb 0 z.accounts (omega arith)) (and_from _ _ (le-leb 0 z.series (omega arith)) (le-leb 0 z.positions (omega arith)));
-}
+sound_start f z = grind arith
 
 sound_step : (b : Book) (j : Journal) (e : Event) (v : Verdict) → judge b e ≡ v → Kept b j → Sound b → Sound (afterwards b e v)
 unfolding afterwards

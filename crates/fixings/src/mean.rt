@@ -34,17 +34,8 @@ pub(crate) fn final_price(family: Family, samples: &[u32], close: u32) -> FinalP
     }
 }
 
-// The sum of the samples.
-fn total(samples: &[u32]) -> u64
-    requires { length samples.now ≤ 200 }
-    ensures { result ≡ sum samples.now }
-{
-    samples.iter().map(|price| u64::from(*price)).sum()
-}
-
 impl Prices {
     // The samples and the close.
-    #[tactic(auto, using(crate::proofs::Means::sum_most))]
     fn of(samples: &[u32], close: u32) -> Prices
         requires few { length samples.now ≤ 200 }
         requires prices { NoneAbove 10000000 samples.now }
@@ -52,8 +43,9 @@ impl Prices {
         ensures total { result.sum ≡ sum (samples.now ++ close ∷ []) }
         ensures number { result.count ≡ length (samples.now ++ close ∷ []) }
     {
+        let total: u64 = samples.iter().map(|price| u64::from(*price)).sum();
         Prices {
-            sum: total(samples) + u64::from(close),
+            sum: total + u64::from(close),
             count: samples.len() as u64 + 1,
         }
     }

@@ -1,18 +1,16 @@
 -- What an accepted call has passed.
-use Rattle.std.proofs.Common.{◌≡◌, ℕ, ◌<◌, ◌≤◌, Bool, true, false, cond, not, ◌||◌, leb, ℤ, Some, None, Ok, Err, Option, refl, ap, ◌∙◌, arith}
-use Rattle.std.proofs.lemmas.Bool.{leb-true, and_parts, true≢false, false≢true}
+use Rattle.std.proofs.Common.{◌≡◌, ℕ, ◌<◌, ◌≤◌, Bool, true, false, ◌||◌, ℤ, None, Ok, Option, arith}
 use Rattle.terms.specs.declared.kinds.Size.TheVariants.{Full}
 use Rattle.terms.specs.declared.refusal.Reason.{Reason}
 use Rattle.terms.specs.declared.refusal.Refusal.{Refusal}
-use Rattle.terms.specs.Refusals.{about}
 use Rattle.positions.specs.Positions.{closable}
 use Rattle.positions.specs.Money.{balance_in}
 use Rattle.positions.specs.Keys.{future_key}
 use Rattle.ledger.specs.Calls.{Series, Trade, Call, Pricing, admit, list, trade, close, mark, delta, enter, exercise, settle}
-use Rattle.ledger.specs.Numbers.{size_of, series_kind, is_future, on_future, account_in, price_in, delta_range, first_in, key_of}
+use Rattle.ledger.specs.Numbers.{size_of, series_kind, is_future, on_future, delta_range, first_in, key_of}
 use Rattle.ledger.specs.Rows.{present}
-use Rattle.ledger.specs.Book.{Book, family_in, state_at, position_at, is_trading, is_fixed, is_done, month_at}
-use Rattle.ledger.specs.Judge.{Verdict, need, unless, also, open?, pending, within, fits, holder_in, overdrawn, judge_admit, judge_list, judge_trade, judge_close, judge_mark, judge_delta, judge_enter, judge_exercise, judge_settle, judge_call}
+use Rattle.ledger.specs.Book.{Book, state_at, position_at, is_trading, is_fixed, is_done, month_at}
+use Rattle.ledger.specs.Judge.{Verdict, need, unless, also, within, fits, holder_in, overdrawn, judge_call}
 use Rattle.ledger.proofs.KeyLaws.{InRange, in_range_lem, size_full, key_future}
 
 -- ---- verdicts

@@ -1,12 +1,11 @@
 -- Cash: what a payment, and a payment for each position, do to a balance and to the sum of all; fees over positions.
-use Rattle.std.proofs.Common.{◌≡◌, ℕ, ◌<◌, Bool, true, false, cond, ◌&&◌, eqb, List, [], ◌∷◌, ◌++◌, ℤ, pos, ◌+ℤ◌, sym, refl, ap, ◌∙◌, arith}
+use Rattle.std.proofs.Common.{◌≡◌, ℕ, ◌<◌, Bool, true, false, cond, ◌&&◌, eqb, [], ◌∷◌, ℤ, pos, ◌+ℤ◌, sym, refl, ap, ◌∙◌, arith}
 use Rattle.std.proofs.lemmas.Grind.{common_steps}
 use borrow.Author.Differences.{ints}
 use Rattle.std.proofs.lemmas.Bool.{eqb-true}
 use Rattle.registers.specs.Rows.{Rows, Rising}
 use Rattle.registers.specs.Sums.{total_ℤ}
 use Rattle.terms.specs.declared.kinds.SeriesKind.{SeriesKind}
-use Rattle.tariffs.specs.declared.side.Side.{Side}
 use Rattle.positions.specs.declared.position.Position.{Position}
 use Rattle.positions.specs.Positions.{flat}
 use Rattle.positions.specs.Keys.{line_key, series_of_key, account_of_key}
@@ -14,7 +13,7 @@ use Rattle.ledger.specs.declared.rows.Account.{Account}
 use Rattle.ledger.specs.Calls.{Pricing}
 use Rattle.ledger.specs.Rows.{at, in_series, Each, sum_below}
 use Rattle.ledger.specs.Book.{Book, nobody, kind_at}
-use Rattle.ledger.specs.Charges.{bought_sides, all_bought, fees_of, bought_fees}
+use Rattle.ledger.specs.Charges.{all_bought, fees_of, bought_fees}
 use Rattle.ledger.specs.Post.{paid, pay, pay_each}
 use Rattle.ledger.proofs.RowLaws.{at_change, total-change, rising_change, total_kept, total_same, under, under_at, below_same, total-below}
 use Rattle.ledger.proofs.PositionLaws.{key_is}

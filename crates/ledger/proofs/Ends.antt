@@ -1,10 +1,8 @@
 -- A mark that moves, a series that lapses, and a cash option that is settled.
 use Rattle.std.proofs.Common.{◌≡◌, ℕ, ◌<◌, Bool, true, false, cond, eqb, ltb, [], ◌∷◌, ℤ, pos, ◌-ℤ◌, sym, refl, ap, ◌∙◌, arith}
-use Rattle.std.proofs.lemmas.Grind.{common_steps}
 use mathlib.Core.Path.{fun_ext}
-use lib.IntN.{+ℤ_idl}
 use borrow.Author.Differences.{ints}
-use Rattle.std.proofs.lemmas.Bool.{eqb-true, ne_eqb, true≢false, false≢true}
+use Rattle.std.proofs.lemmas.Bool.{ne_eqb, true≢false}
 use Rattle.registers.specs.Rows.{Rows}
 use Rattle.registers.specs.Sums.{total_ℤ}
 use Rattle.terms.specs.declared.family.Family.{Family}
@@ -13,7 +11,7 @@ use Rattle.positions.specs.Positions.{flat, units}
 use Rattle.positions.specs.Money.{amount, payoff}
 use Rattle.positions.specs.Keys.{future_key, is_future_key, line_key, series_of_key}
 use Rattle.ledger.specs.declared.rows.State.{State}
-use Rattle.ledger.specs.declared.rows.State.TheVariants.{Trading, Fixed, Done}
+use Rattle.ledger.specs.declared.rows.State.TheVariants.{Done}
 use Rattle.ledger.specs.declared.rows.Terms.{Terms}
 use Rattle.ledger.specs.Calls.{Series, Pricing, mark, exercise, settle}
 use Rattle.ledger.specs.Numbers.{series_kind, is_future, key_of}
@@ -21,14 +19,14 @@ use Rattle.ledger.specs.Rows.{at, change, in_series, outside}
 use Rattle.ledger.specs.Book.{Book, family_in, nobody, unlisted, kind_at, terms_at, value_at, state_at, is_trading, is_done, final_of}
 use Rattle.ledger.specs.Charges.{all_bought, lapses_at, fees_of, bought_fees}
 use Rattle.ledger.specs.Post.{pay_each, valued, stated, post_end, settle_fees, post_cash, post}
-use Rattle.ledger.specs.Ledger.{Journal, final_in, given_in, position_in, net, fees}
+use Rattle.ledger.specs.Ledger.{Journal, final_in, given_in, position_in, fees}
 use Rattle.ledger.proofs.Ring.{+-amount, zero_amount}
 use Rattle.ledger.proofs.RowLaws.{rising_change, present_change, each_kept, rising_outside, at_outside, total_kept, total_less, below_same, below_+}
-use Rattle.ledger.proofs.PositionLaws.{bought_fees_none, series_of_key_lem, units_in, total-outside}
+use Rattle.ledger.proofs.PositionLaws.{bought_fees_none, units_in, total-outside}
 use Rattle.ledger.proofs.CashLaws.{cash_in, brings, kind_pay_each, total-pay_each, rising_pay_each, cash_pay_each, brings_below, fees_bought}
 use Rattle.ledger.proofs.KeyLaws.{future_is}
-use Rattle.ledger.proofs.Worth.{worth_then, holding, moving, worth_mark}
-use Rattle.ledger.proofs.Kept.{Good, Kept, on, value_of, at_terms, done_back, done_other, final_back, idle_cash, idle_fees}
+use Rattle.ledger.proofs.Worth.{worth_then, worth_mark}
+use Rattle.ledger.proofs.Kept.{Good, Kept, on, at_terms, done_back, done_other, final_back, idle_cash, idle_fees}
 
 -- ---- sums over the positions in a series
 total-amount : (f : Family) (d : ℤ) (rs : Rows Position) → total_ℤ (λ _ l. amount f (units l) d) rs ≡ amount f (total_ℤ (λ _ l. units l) rs) d

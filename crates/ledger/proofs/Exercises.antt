@@ -1,9 +1,8 @@
 -- A series on the future is exercised.
 use Rattle.std.proofs.Common.{◌≡◌, ℕ, ◌*◌, ◌<◌, Bool, true, false, cond, eqb, ℤ, pos, ◌+ℤ◌, ◌-ℤ◌, ◌*ℤ◌, neg_ℤ, sym, refl, ap, ◌∙◌, subst, arith}
-use Rattle.std.proofs.lemmas.Grind.{common_steps}
 use lib.IntN.{+ℤ_idl}
 use borrow.Author.Differences.{ints}
-use Rattle.std.proofs.lemmas.Bool.{eqb-true, ne_eqb, true≢false, false≢true}
+use Rattle.std.proofs.lemmas.Bool.{eqb-true, ne_eqb, true≢false}
 use Rattle.registers.specs.Rows.{Rows, Rising}
 use Rattle.registers.specs.Sums.{total_ℤ}
 use Rattle.terms.specs.declared.family.Family.{Family}
@@ -16,7 +15,7 @@ use Rattle.positions.specs.Money.{amount}
 use Rattle.positions.specs.Keys.{future_key, is_future_key, line_key, series_of_key}
 use Rattle.ledger.specs.declared.rows.State.TheVariants.{Done}
 use Rattle.ledger.specs.Calls.{Series, Pricing, exercise}
-use Rattle.ledger.specs.Numbers.{kind_of, series_kind, on_future, key_of, kind_of_key, all_series}
+use Rattle.ledger.specs.Numbers.{kind_of, series_kind, on_future, key_of, kind_of_key}
 use Rattle.ledger.specs.Rows.{at, present, change, in_series, outside, Each}
 use Rattle.ledger.specs.Book.{Book, family_in, unlisted, kind_at, state_at, is_done}
 use Rattle.ledger.specs.Charges.{lapses_at, bought_fees}
@@ -27,7 +26,7 @@ use Rattle.ledger.proofs.RowLaws.{rising_change, present_change, each_at, each_m
 use Rattle.ledger.proofs.PositionLaws.{assigned_units, assigned_none, bought_fees_none, series_of_key_lem, units_in, total-outside}
 use Rattle.ledger.proofs.Moves.{rising_move_each, at_move_each, total-move_each, each_move_each}
 use Rattle.ledger.proofs.CashLaws.{brings, kind_pay_each, total-pay_each, rising_pay_each, cash_pay_each, brings_below, fees_bought}
-use Rattle.ledger.proofs.KeyLaws.{InRange, not_both, key_is_future, future_is, future_kind, key_kind, future_inside, apart}
+use Rattle.ledger.proofs.KeyLaws.{InRange, not_both, key_is_future, future_is, key_kind}
 use Rattle.ledger.proofs.Worth.{holding, moving}
 use Rattle.ledger.proofs.Kept.{Good, Kept, on, done_back, done_other, final_back}
 use Rattle.ledger.proofs.Ends.{paid_level, ended_value}
@@ -170,15 +169,15 @@ module _ (b : Book) (j : Journal) (x : Series) (level : ℕ) (p : Pricing) (κ :
         values = λ s. ended_value b j κ n s ∙ κ.values s;
         finals = λ s i t. final_back (stated Done) n s b.series (final_in j s) (ne_eqb s n (λ q. true≢false (sym i ∙ ap is_future_key q ∙ option))) (κ.finals s i) t;
         account_order = rising_pay_each gets (in_series n b.positions) b.accounts κ.account_order;
-        series_order = rising_change unlisted (stated Done) n b.series κ.series_order;
+        series_order = grind (arith, rising_change);
         position_order = rising_outside n took took_order;
         rows = rows_are;
         counts = λ a s l. rw e (line_is a s l);
         unit = λ a s l. rw e (unit_is a s l);
         level = level_is;
-        options = λ a s i q. rw e (other_held a s (done_other n s b.series q) (apart s m i (future_is x.month)) ∙ κ.options a s i (back s q) ∙ sym (+ℤ_idl (net a s j)));
+        options = grind (arith, done_other, future_is, +ℤ_idl);
         futures = λ a s i q. rw e (future_held a s (eqb s n) (eqb s m) (done_other n s b.series q) (κ.futures a s i (back s q)));
-        still = λ a s i. rw (e, apart s m i (future_is x.month)) (+ℤ_idl (moving a s j) ∙ κ.still a s i);
+        still = grind (arith, future_is);
         cash = λ a l. rw e
             (cash_pay_each gets n a b.positions b.accounts l (gets_none a) κ.position_order
             ∙ rw (κ.counts a n l, κ.kinds a, κ.unit a n l, κ.options a n option d) (omega (arith, ints, κ.cash a l)));
@@ -187,7 +186,7 @@ module _ (b : Book) (j : Journal) (x : Series) (level : ℕ) (p : Pricing) (κ :
             (sym (below_+ 65536 (λ a. fees a j) (λ a. fee a (at flat b.positions (line_key n a))))
             ∙ below_same 65536 _ _ (λ a l. rw (κ.counts a n l, κ.kinds a) (omega (arith, ints)))));
         conserved = omega (arith, ints, κ.conserved, total-pay_each gets (in_series n b.positions) b.accounts, total_gets, fees_bought b p (series_kind x) (in_series n b.positions));
-        absent = λ a s l q. rw e (none_still a s (eqb s n) (eqb s m) refl (present_change unlisted (stated Done) n s b.series q) (κ.absent a s l (present_change unlisted (stated Done) n s b.series q)));
+        absent = grind (arith, present_change);
       })
     where
       other_held : (a s : ℕ) → eqb s n ≡ false → eqb s m ≡ false → cond (eqb s n) (pos 0) (cond (eqb s m) (holding a s j +ℤ turned (series_kind x) (holding a n j)) (holding a s j)) ≡ holding a s j

@@ -1,29 +1,25 @@
 -- A future is settled.
-use Rattle.std.proofs.Common.{◌≡◌, ℕ, Bool, true, false, cond, eqb, ℤ, pos, sym, refl, ap, ◌∙◌, arith}
-use Rattle.std.proofs.lemmas.Grind.{common_steps}
+use Rattle.std.proofs.Common.{◌≡◌, ℕ, true, false, cond, eqb, ℤ, pos, ap, ◌∙◌, arith}
 use mathlib.Core.Path.{fun_ext}
 use lib.IntN.{+ℤ_idl}
 use borrow.Author.Differences.{ints}
-use Rattle.std.proofs.lemmas.Bool.{eqb-true, eq-eqb, true≢false, false≢true}
 use Rattle.registers.specs.Rows.{Rows}
 use Rattle.terms.specs.declared.kinds.SeriesKind.{SeriesKind}
-use Rattle.terms.specs.declared.kinds.SeriesKind.TheVariants.{Future, CallOnFuture, PutOnFuture}
-use Rattle.terms.specs.declared.kinds.SeriesKind.TheVariants as kinds
 use Rattle.positions.specs.Money.{payoff}
 use Rattle.positions.specs.Keys.{future_key, is_future_key}
 use Rattle.ledger.specs.declared.rows.State.{State}
-use Rattle.ledger.specs.declared.rows.State.TheVariants.{Trading, Fixed, Done}
+use Rattle.ledger.specs.declared.rows.State.TheVariants.{Done}
 use Rattle.ledger.specs.declared.rows.Terms.{Terms}
 use Rattle.ledger.specs.Calls.{Series, Pricing, settle}
 use Rattle.ledger.specs.Numbers.{series_kind, is_future, key_of}
 use Rattle.ledger.specs.Rows.{at, change, in_series}
 use Rattle.ledger.specs.Book.{Book, family_in, unlisted, terms_at, state_at, is_trading, is_fixed, is_done, final_of}
 use Rattle.ledger.specs.Post.{valued, stated, post_final}
-use Rattle.ledger.specs.Ledger.{Journal, final_in, given_in, position_in, net, fee_by}
+use Rattle.ledger.specs.Ledger.{Journal, final_in, given_in, position_in, fee_by}
 use Rattle.ledger.proofs.RowLaws.{rising_change, present_change, each_kept, rising_outside, below_same}
 use Rattle.ledger.proofs.CashLaws.{kind_pay_each, rising_pay_each}
 use Rattle.ledger.proofs.Worth.{worth_then, holding, moving}
-use Rattle.ledger.proofs.Kept.{Good, Kept, on, value_of, at_terms}
+use Rattle.ledger.proofs.Kept.{Good, Kept, on, at_terms}
 use Rattle.ledger.proofs.Ends.{moved, cash_moved, total_moved, ended_line, ended_unit, ended_level, ended_none, ended_held}
 
 Fixed-open : (q : State) → is_fixed q ≡ true → is_done q ≡ false
@@ -74,19 +70,19 @@ module _ (b : Book) (j : Journal) (x : Series) (p : Pricing) (κ : Kept b j) whe
         values = λ s. rw e (value_ends s);
         finals = final_ends;
         account_order = rising_pay_each (moved b j κ n v) (in_series n b.positions) b.accounts κ.account_order;
-        series_order = rising_change unlisted (stated Done) n (change unlisted (valued v) n b.series) (rising_change unlisted (valued v) n b.series κ.series_order);
-        position_order = rising_outside n b.positions κ.position_order;
+        series_order = grind (arith, rising_change);
+        position_order = grind (arith, rising_outside);
         rows = each_kept Good _ b.positions κ.rows;
         counts = ended_line b j κ n;
-        unit = λ a s l. ended_unit b j κ n (eqb s n) (position_in a s j) (holding a s j) (κ.unit a s l);
+        unit = grind (arith, ended_unit, holding);
         level = ended_level b j κ n;
-        options = λ a s i q. ended_held b j κ n (eqb s n) (holding a s j) (open_before s q).0 ∙ κ.options a s i (open_before s q).1 ∙ sym (+ℤ_idl (net a s j));
-        futures = λ a s i q. ended_held b j κ n (eqb s n) (holding a s j) (open_before s q).0 ∙ κ.futures a s i (open_before s q).1 ∙ sym (+ℤ_idl (moving a s j));
-        still = λ a s i. +ℤ_idl (moving a s j) ∙ κ.still a s i;
+        options = grind (arith, ended_held, holding, open_before, +ℤ_idl);
+        futures = grind (arith, ended_held, holding, open_before, +ℤ_idl, moving);
+        still = grind (arith, +ℤ_idl, moving);
         cash = λ a l. rw e
             (cash_moved b j κ n v f (Fixed-open (state_at b n) d) a l
             ∙ omega (arith, ints, free e a, ap (λ (now : ℕ → ℤ). worth_then (family_in b) a now j) (fun_ext (priced e))));
-        exchange = κ.exchange ∙ below_same 65536 _ _ (λ a _. omega (arith, ints, free e a));
+        exchange = grind (arith, below_same, free);
         conserved = omega (arith, ints, κ.conserved, total_moved b j κ n v);
         absent = λ a s l q. ended_none b j κ n (eqb s n) (position_in a s j)
             (κ.absent a s l (present_change unlisted (valued v) n s b.series (present_change unlisted (stated Done) n s (change unlisted (valued v) n b.series) q)));

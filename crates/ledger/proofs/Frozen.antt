@@ -1,22 +1,13 @@
 -- The net units of a series that has ended, and the final price of a month that is Fixed, no longer change: so the worth may be read from the whole journal.
-use Rattle.std.proofs.Common.{◌≡◌, ℕ, ◌*◌, Bool, true, false, cond, eqb, [], ◌∷◌, ℤ, pos, ◌+ℤ◌, ◌-ℤ◌, sym, refl, ap, ◌∙◌, subst, arith}
-use Rattle.std.proofs.lemmas.Grind.{common_steps}
-use lib.IntN.{+ℤ_idl}
+use Rattle.std.proofs.Common.{◌≡◌, ℕ, true, false, cond, eqb, [], ◌∷◌, ℤ, pos, ◌+ℤ◌, refl, arith}
 use borrow.Author.Differences.{ints}
-use Rattle.std.proofs.lemmas.Bool.{eqb-true, eq-eqb, ne_eqb, true≢false, false≢true}
-use Rattle.registers.specs.Rows.{Rows}
 use Rattle.terms.specs.declared.family.Family.{Family}
-use Rattle.positions.specs.Money.{amount, payoff}
 use Rattle.positions.specs.Keys.{future_key}
 use Rattle.ledger.specs.declared.rows.State.{State}
-use Rattle.ledger.specs.declared.rows.State.TheVariants.{Trading, Fixed, Done}
-use Rattle.ledger.specs.declared.rows.Terms.{Terms}
-use Rattle.ledger.specs.Calls.{Trade, Series, Call, Pricing, Event, admit, list, trade, close, mark, delta, enter, exercise, settle}
+use Rattle.ledger.specs.Calls.{Trade, Call, Pricing, Event, admit, list, trade, close, mark, delta, enter, exercise, settle}
 use Rattle.ledger.specs.Numbers.{series_kind, is_future, key_of}
-use Rattle.ledger.specs.Rows.{at, change}
-use Rattle.ledger.specs.Book.{Book, unlisted, terms_at, state_at, is_trading, is_done, final_of}
-use Rattle.ledger.specs.Charges.{lapses_at}
-use Rattle.ledger.specs.Post.{valued, stated, post_mark, post_end, post_final, post_cash, turned, post_exercise, post}
+use Rattle.ledger.specs.Book.{Book, state_at, is_trading, is_done}
+use Rattle.ledger.specs.Post.{post}
 use Rattle.ledger.specs.Ledger.{Journal, final_in, net_of, net, gain_by, gains}
 use Rattle.ledger.specs.Laws.{noted}
 use Rattle.ledger.proofs.RowLaws.{at_absent}

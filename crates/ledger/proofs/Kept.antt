@@ -1,9 +1,7 @@
 -- What every accepted call keeps between the book and the journal, and small laws that the calls share.
-use Rattle.std.proofs.Common.{◌≡◌, ℕ, ◌<◌, Bool, true, false, cond, eqb, ◌∷◌, ℤ, pos, ◌+ℤ◌, ◌-ℤ◌, sym, refl, ap, ◌∙◌, subst, arith}
-use Rattle.std.proofs.lemmas.Grind.{common_steps}
+use Rattle.std.proofs.Common.{◌≡◌, ℕ, ◌<◌, Bool, true, false, cond, eqb, ◌∷◌, ℤ, pos, ◌+ℤ◌, ◌-ℤ◌, sym, ◌∙◌, arith}
 use lib.IntN.{+ℤ_idl}
 use borrow.Author.Differences.{ints}
-use Rattle.std.proofs.lemmas.Bool.{eqb-true, true≢false}
 use Rattle.registers.specs.Rows.{Rows, Rising}
 use Rattle.registers.specs.Sums.{total_ℤ}
 use Rattle.terms.specs.declared.family.Family.{Family}

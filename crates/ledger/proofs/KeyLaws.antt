@@ -1,17 +1,14 @@
 -- The numbers of series, and their keys.
-use Rattle.std.proofs.Common.{◌≡◌, ℕ, zero, suc, ◌+◌, ◌*◌, ◌%◌, ◌<◌, ◌≤◌, Bool, true, false, ◌&&◌, eqb, ltb, leb, sym, refl, ap, ◌∙◌, arith}
-use Rattle.std.proofs.lemmas.Grind.{common_steps}
-use Rattle.std.proofs.lemmas.Bool.{eqb-true, eqb-false, eq-eqb, ne_eqb, ltb-true, leb-true, and_parts, true≢false, false≢true}
+use Rattle.std.proofs.Common.{◌≡◌, ℕ, ◌<◌, ◌≤◌, true, false, eqb, ltb, sym, ap, ◌∙◌, arith}
+use Rattle.std.proofs.lemmas.Bool.{eqb-true, eq-eqb, ne_eqb, and_parts, true≢false}
 use Rattle.terms.specs.declared.family.Family.{Family}
 use Rattle.terms.specs.declared.kinds.SeriesKind.{SeriesKind}
-use Rattle.terms.specs.declared.kinds.SeriesKind.TheVariants.{Future, CallOnFuture, PutOnFuture}
-use Rattle.terms.specs.declared.kinds.SeriesKind.TheVariants as kinds
 use Rattle.terms.specs.declared.kinds.Size.{Size}
-use Rattle.terms.specs.declared.kinds.Size.TheVariants.{Full, Mini}
-use Rattle.series.specs.Listing.{offers, size_in, takes_strike}
+use Rattle.terms.specs.declared.kinds.Size.TheVariants.{Full}
+use Rattle.series.specs.Listing.{size_in}
 use Rattle.positions.specs.Keys.{future_key, is_future_key}
 use Rattle.ledger.specs.Calls.{Series}
-use Rattle.ledger.specs.Numbers.{kind_of, size_of, series_kind, is_future, on_future, month_in, series_in, size_offered, key_of, kind_of_key, future_of_key, all_series}
+use Rattle.ledger.specs.Numbers.{kind_of, size_of, series_kind, is_future, on_future, series_in, size_offered, key_of, kind_of_key, future_of_key, all_series}
 
 pub record InRange (x : Series) : Type 0 where
   pub kind : x.kind < 5

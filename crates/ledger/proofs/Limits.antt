@@ -1,17 +1,15 @@
 -- Deltas: the book's is the ledger's, and a quiet call keeps an account's within the limit or where it was.
-use Rattle.std.proofs.Common.{◌≡◌, ℕ, ◌<◌, Bool, true, false, cond, ◌&&◌, eqb, ℤ, pos, sym, refl, ap, ◌∙◌, subst, arith}
+use Rattle.std.proofs.Common.{◌≡◌, ℕ, ◌<◌, Bool, true, false, cond, ◌&&◌, eqb, ℤ, pos, sym, refl, ap, ◌∙◌, arith}
 use Rattle.std.proofs.lemmas.Grind.{common_steps}
-use Rattle.std.proofs.lemmas.Bool.{eqb-true, leb-true, true≢false}
+use Rattle.std.proofs.lemmas.Bool.{eqb-true}
 use Rattle.positions.specs.declared.position.Position.{Position}
-use Rattle.positions.specs.Positions.{flat, units, closed}
-use Rattle.positions.specs.Keys.{future_key, is_future_key, line_key, series_of_key, account_of_key}
-use Rattle.ledger.specs.Calls.{Trade, Call, Pricing, admit, list, trade, close, mark, delta, enter, exercise, settle}
-use Rattle.ledger.specs.Numbers.{key_of, all_series}
-use Rattle.ledger.specs.Rows.{present}
+use Rattle.positions.specs.Positions.{flat, units}
+use Rattle.positions.specs.Keys.{line_key, series_of_key, account_of_key}
+use Rattle.ledger.specs.Calls.{Trade, Call, Pricing, trade}
+use Rattle.ledger.specs.Numbers.{all_series}
 use Rattle.ledger.specs.Book.{Book, delta_at, weight, delta_of}
 use Rattle.ledger.specs.Post.{post}
-use Rattle.ledger.specs.Judge.{within}
-use Rattle.ledger.specs.Ledger.{Journal, given_in, position_in, delta_in, exposure}
+use Rattle.ledger.specs.Ledger.{Journal, position_in, delta_in, exposure}
 use Rattle.ledger.specs.Laws.{Quiet, Limited}
 use Rattle.ledger.proofs.Ring.{zero_weight}
 use Rattle.ledger.proofs.RowLaws.{each_more, total_kept, total_same, under, under_at, below_same, total-below}

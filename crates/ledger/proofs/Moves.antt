@@ -1,6 +1,5 @@
 -- The positions of a series that move to another one.
 use Rattle.std.proofs.Common.{◌≡◌, ℕ, suc, ◌<◌, Bool, true, false, cond, ◌&&◌, eqb, ltb, [], ◌∷◌, ℤ, pos, ◌+ℤ◌, Some, None, fold, unwrap_or, sym, refl, ap, ◌∙◌, arith}
-use Rattle.std.proofs.lemmas.Grind.{common_steps}
 use borrow.Author.Differences.{ints}
 use Rattle.std.proofs.lemmas.Bool.{eqb-true, ltb-true, true≢false}
 use Rattle.registers.specs.Rows.{Rows, Rising, lookup}

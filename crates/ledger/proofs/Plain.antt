@@ -1,28 +1,25 @@
 -- Calls that move no money: admit, list, close, delta and enter.
-use Rattle.std.proofs.Common.{◌≡◌, ℕ, ◌<◌, ◌≤◌, Bool, true, false, cond, ◌&&◌, eqb, ℤ, pos, ◌-ℤ◌, sym, refl, ap, ◌∙◌, subst, arith}
-use Rattle.std.proofs.lemmas.Grind.{common_steps}
-use lib.IntN.{+ℤ_idl}
+use Rattle.std.proofs.Common.{◌≡◌, ℕ, ◌<◌, ◌≤◌, Bool, true, false, cond, ◌&&◌, eqb, ℤ, pos, ◌-ℤ◌, sym, refl, ap, ◌∙◌, arith}
 use borrow.Author.Differences.{ints}
-use Rattle.std.proofs.lemmas.Bool.{eqb-true, ne_eqb, true≢false, false≢true}
+use Rattle.std.proofs.lemmas.Bool.{true≢false}
 use Rattle.terms.specs.declared.family.Family.{Family}
 use Rattle.positions.specs.declared.position.Position.{Position}
 use Rattle.positions.specs.Positions.{flat, units, closed, closable}
 use Rattle.positions.specs.Keys.{future_key, is_future_key, line_key, series_of_key}
 use Rattle.ledger.specs.declared.rows.Account.{Account}
 use Rattle.ledger.specs.declared.rows.State.{State}
-use Rattle.ledger.specs.declared.rows.State.TheVariants.{Trading, Fixed, Done}
+use Rattle.ledger.specs.declared.rows.State.TheVariants.{Trading}
 use Rattle.ledger.specs.declared.rows.Terms.{Terms}
 use Rattle.ledger.specs.Calls.{Series, Pricing, admit, list, close, delta, enter}
-use Rattle.ledger.specs.Numbers.{account_kind_of, key_of, all_series}
+use Rattle.ledger.specs.Numbers.{key_of}
 use Rattle.ledger.specs.Rows.{at, present, change}
-use Rattle.ledger.specs.Book.{Book, family_in, nobody, unlisted, terms_at, value_at, state_at, position_at, is_trading, is_done, final_of}
-use Rattle.ledger.specs.Post.{valued, stated, post}
-use Rattle.ledger.specs.Ledger.{Journal, final_in, given_in, position_in, net, fees}
+use Rattle.ledger.specs.Book.{Book, family_in, unlisted, terms_at, state_at, position_at, is_trading, is_done, final_of}
+use Rattle.ledger.specs.Post.{valued, post}
+use Rattle.ledger.specs.Ledger.{Journal, final_in, given_in, position_in, fees}
 use Rattle.ledger.proofs.Ring.{zero_amount}
 use Rattle.ledger.proofs.RowLaws.{at_absent, at_change, total-change, rising_change, present_change, each_at, each_more, rising_revise, each_revise}
-use Rattle.ledger.proofs.PositionLaws.{closed_units, closable_minis, series_of_key_lem, at_line, total_line}
-use Rattle.ledger.proofs.CashLaws.{cash_in}
-use Rattle.ledger.proofs.KeyLaws.{InRange, key_inside}
+use Rattle.ledger.proofs.PositionLaws.{closed_units, closable_minis, at_line, total_line}
+use Rattle.ledger.proofs.KeyLaws.{InRange}
 use Rattle.ledger.proofs.Worth.{worth_then, moving, worth_mark}
 use Rattle.ledger.proofs.Kept.{Good, NoMinis, Kept, on, value_of, at_terms, done_back, final_back, idle_cash, idle_fees}
 

@@ -1,9 +1,9 @@
 -- Positions: what keeps or adds units, where there are no minis, their keys, and what moves from one series to another.
-use Rattle.std.proofs.Common.{◌≡◌, ℕ, ◌<◌, ◌≤◌, Bool, true, false, cond, not, ◌&&◌, eqb, [], ◌∷◌, ℤ, pos, negsuc, ◌+ℤ◌, ◌-ℤ◌, ◌*ℤ◌, neg_ℤ, nat_abs, sym, refl, ap, ◌∙◌, arith}
+use Rattle.std.proofs.Common.{◌≡◌, ℕ, ◌<◌, ◌≤◌, Bool, true, false, cond, not, ◌&&◌, eqb, [], ◌∷◌, ℤ, pos, ◌+ℤ◌, ◌-ℤ◌, ◌*ℤ◌, neg_ℤ, nat_abs, sym, refl, ap, ◌∙◌, arith}
 use Rattle.std.proofs.lemmas.Grind.{common_steps}
 use borrow.Author.Differences.{ints}
 use Rattle.std.proofs.lemmas.Bool.Decides.{nat_tests}
-use Rattle.std.proofs.lemmas.Bool.{eqb-true, eqb-false, leb-true, true≢false}
+use Rattle.std.proofs.lemmas.Bool.{eqb-true, eqb-false, true≢false}
 use Rattle.registers.specs.Rows.{Rows, Rising}
 use Rattle.registers.specs.Sums.{total_ℤ}
 use Rattle.terms.specs.declared.kinds.AccountKind.{AccountKind}
@@ -12,7 +12,7 @@ use Rattle.terms.specs.declared.kinds.SeriesKind.{SeriesKind}
 use Rattle.terms.specs.declared.kinds.Size.{Size}
 use Rattle.terms.specs.declared.kinds.Size.TheVariants.{Full, Mini}
 use Rattle.positions.specs.declared.position.Position.{Position}
-use Rattle.positions.specs.Positions.{flat, units, added, less, opposed, settled, dealt, signed_like, closed, closable}
+use Rattle.positions.specs.Positions.{flat, units, added, less, settled, dealt, signed_like, closed, closable}
 use Rattle.positions.specs.Keys.{line_key, series_of_key, account_of_key}
 use Rattle.ledger.specs.Calls.{Pricing}
 use Rattle.ledger.specs.Rows.{at, revise, outside}

@@ -1,13 +1,11 @@
 -- Which rows there are, and how many.
-use Rattle.std.proofs.Common.{◌≡◌, ℕ, suc, ◌≤◌, Bool, true, false, cond, eqb, ltb, [], ◌∷◌, length, ℤ, is_some, Some, None, filter, Option, unwrap_or, sym, refl, ap, ◌∙◌, subst, arith}
-use Rattle.std.proofs.lemmas.Grind.{common_steps}
-use Rattle.std.proofs.lemmas.Bool.{eqb-true, eqb-false, ne_eqb, ltb-true, le-ltb, false≢true}
-use Rattle.registers.specs.Rows.{Rows, Rising, lookup, put, without}
+use Rattle.std.proofs.Common.{◌≡◌, ℕ, suc, ◌≤◌, Bool, true, false, eqb, [], ◌∷◌, length, ℤ, is_some, None, filter, Option, sym, refl, ap, ◌∙◌, arith}
+use Rattle.std.proofs.lemmas.Bool.{eqb-false}
+use Rattle.registers.specs.Rows.{Rows, Rising, lookup}
 use Rattle.registers.specs.Sums.{share}
 use Rattle.registers.proofs.OneRow.{lookup-put_same, lookup-put_other}
 use Rattle.registers.proofs.Sums.{length-put, length_without}
 use Rattle.positions.specs.declared.position.Position.{Position}
-use Rattle.positions.specs.Positions.{flat, is_flat}
 use Rattle.ledger.specs.declared.rows.Account.{Account}
 use Rattle.positions.specs.Keys.{account_of_key}
 use Rattle.ledger.specs.Rows.{at, present, change, revise, first, Each}

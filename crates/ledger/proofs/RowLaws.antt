@@ -1,10 +1,9 @@
 -- Rows: what a change does to what stands under a key, to a sum and to the order; the rows of one series; sums over numbers.
-use Rattle.std.proofs.Common.{◌≡◌, ℕ, zero, suc, ◌<◌, ◌≤◌, Bool, true, false, cond, not, eqb, ltb, [], ◌∷◌, ◌++◌, length, ℤ, pos, ◌+ℤ◌, ◌-ℤ◌, neg_ℤ, nat_abs, is_some, Some, None, filter, Option, unwrap_or, sym, refl, ap, ◌∙◌, subst, zero-le, arith}
+use Rattle.std.proofs.Common.{◌≡◌, ℕ, zero, suc, ◌<◌, ◌≤◌, Bool, true, false, cond, not, eqb, [], ◌∷◌, ◌++◌, length, ℤ, pos, ◌+ℤ◌, ◌-ℤ◌, neg_ℤ, is_some, None, filter, Option, unwrap_or, sym, refl, ap, ◌∙◌, subst, zero-le, arith}
 use Rattle.std.proofs.lemmas.Grind.{common_steps}
 use mathlib.Core.Path.{fun_ext}
 use borrow.Author.Differences.{ints}
 use Rattle.std.proofs.lemmas.Bool.Decides.{nat_tests}
-use Rattle.std.proofs.lemmas.Bool.{eqb-true, eqb-false, ne_eqb, ltb-true, and_parts, true≢false}
 use Rattle.registers.specs.Rows.{Rows, lookup, put, without, Rising}
 use Rattle.registers.specs.Stretches.{front, stretch, rest}
 use Rattle.registers.specs.Sums.{total_ℤ, share_ℤ}

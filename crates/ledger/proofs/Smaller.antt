@@ -1,17 +1,15 @@
 -- Smaller laws: the offset by itself, and single events.
-use Rattle.std.proofs.Common.{◌≡◌, ℕ, zero, suc, ◌/◌, min, ◌∷◌, ℤ, pos, negsuc, neg_ℤ, nat_abs, Ok, Err, sym, refl, ap, arith}
-use Rattle.std.proofs.lemmas.Grind.{common_steps}
+use Rattle.std.proofs.Common.{◌≡◌, ℕ, ℤ, nat_abs, Err, sym, arith}
 use Rattle.std.proofs.lemmas.Bool.{leb-true, le-leb}
 use Rattle.terms.specs.declared.kinds.AccountKind.{AccountKind}
-use Rattle.terms.specs.declared.kinds.AccountKind.TheVariants.{House, Maker, Client}
 use Rattle.terms.specs.declared.refusal.Refusal.{Refusal}
 use Rattle.positions.specs.declared.position.Position.{Position}
 use Rattle.positions.specs.Positions.{position, less, opposed, offset, settled, closed}
 use Rattle.ledger.specs.Calls.{Event}
 use Rattle.ledger.specs.Book.{Book}
-use Rattle.ledger.specs.Judge.{Verdict, accepted}
-use Rattle.ledger.specs.Runs.{judge, afterwards, step}
-use Rattle.ledger.specs.Laws.{noted, journal, Largest, Offsets, OffsetLaws, EventLaws}
+use Rattle.ledger.specs.Judge.{Verdict}
+use Rattle.ledger.specs.Runs.{afterwards}
+use Rattle.ledger.specs.Laws.{journal, Largest, Offsets, OffsetLaws, EventLaws}
 use Rattle.ledger.proofs.PositionLaws.{settled_units, closed_units}
 
 -- ---- the offset is the largest close

@@ -1,25 +1,21 @@
 -- Every run leaves a sound book.
-use Rattle.std.proofs.Common.{◌≡◌, ℕ, ◌*◌, ◌<◌, ◌≤◌, Bool, true, false, cond, not, ◌&&◌, ◌||◌, eqb, ltb, leb, [], ◌∷◌, length, ℤ, pos, negsuc, ◌+ℤ◌, ◌-ℤ◌, ◌*ℤ◌, neg_ℤ, nat_abs, Some, None, Option, sym, refl, ap, ◌∙◌, subst, arith}
+use Rattle.std.proofs.Common.{◌≡◌, ℕ, ◌*◌, ◌<◌, ◌≤◌, Bool, true, false, cond, not, ◌||◌, eqb, ltb, [], ◌∷◌, length, ℤ, pos, ◌+ℤ◌, ◌-ℤ◌, nat_abs, None, Option, sym, refl, ap, ◌∙◌, subst, arith}
 use Rattle.std.proofs.lemmas.Grind.{common_steps}
-use lib.Signed.{le_z}
 use borrow.Author.Differences.{ints}
 use Rattle.std.specs.Option.{option_map}
-use Rattle.std.proofs.lemmas.Bool.{eqb-true, eq-eqb, ne_eqb, leb-true, le-leb, and_parts, and_from, not-false, true≢false, false≢true}
+use Rattle.std.proofs.lemmas.Bool.{eqb-true, eq-eqb, ne_eqb, and_parts, not-false, true≢false, false≢true}
 use Rattle.registers.specs.Rows.{Rows, Rising}
 use Rattle.terms.specs.declared.kinds.SeriesKind.{SeriesKind}
-use Rattle.terms.specs.declared.kinds.SeriesKind.TheVariants.{Future, CallOnFuture, PutOnFuture}
-use Rattle.terms.specs.declared.kinds.SeriesKind.TheVariants as kinds
 use Rattle.positions.specs.declared.position.Position.{Position}
-use Rattle.positions.specs.Positions.{position, flat, units, is_flat, less, opposed, signed_like, closed, closable, count_in, in_range}
+use Rattle.positions.specs.Positions.{flat, units, is_flat, closed, closable, in_range}
 use Rattle.positions.specs.Money.{amount, balance_in}
 use Rattle.positions.specs.Keys.{future_key, line_key, series_of_key, account_of_key}
 use Rattle.ledger.specs.declared.rows.Account.{Account}
-use Rattle.ledger.specs.declared.rows.State.{State}
 use Rattle.ledger.specs.declared.rows.State.TheVariants.{Trading, Fixed, Done}
 use Rattle.ledger.specs.declared.rows.Terms.{Terms}
 use Rattle.ledger.specs.Calls.{Series, Trade, Call, Pricing, admit, list, trade, close, mark, delta, enter, exercise, settle}
-use Rattle.ledger.specs.Numbers.{account_kind_of, series_kind, is_future, delta_range, first_in, key_of, future_of_key}
-use Rattle.ledger.specs.Rows.{at, present, change, revise, in_series, outside, Each}
+use Rattle.ledger.specs.Numbers.{series_kind, is_future, delta_range, first_in, key_of, future_of_key}
+use Rattle.ledger.specs.Rows.{at, present, change, in_series, Each}
 use Rattle.ledger.specs.Book.{Book, book, family_in, nobody, unlisted, kind_at, cash_at, terms_at, value_at, state_at, position_at, is_done, final_of}
 use Rattle.ledger.specs.Charges.{payoff_at, lapses_at, bought_fees}
 use Rattle.ledger.specs.Post.{pay, pay_each, valued, stated, post_mark, post_end, post_final, settle_fees, post_cash, turned, assigned, post_exercise, post}
@@ -27,8 +23,8 @@ use Rattle.ledger.specs.Judge.{fits, holder_in, overdrawn}
 use Rattle.ledger.specs.Ledger.{Journal, kind_in, position_in}
 use Rattle.ledger.specs.Sound.{Sound}
 use Rattle.ledger.proofs.Ring.{zero_amount}
-use Rattle.ledger.proofs.RowLaws.{at_absent, at_change, present_keep, present_change, each_kept, flat_is, at_outside, length-outside}
-use Rattle.ledger.proofs.PositionLaws.{assigned_none, closable_minis, bought_fees_none, series_of_key_lem, account_of_key_lem, at_line}
+use Rattle.ledger.proofs.RowLaws.{at_change, present_keep, present_change, each_kept, flat_is, at_outside, length-outside}
+use Rattle.ledger.proofs.PositionLaws.{assigned_none, bought_fees_none, series_of_key_lem, account_of_key_lem, at_line}
 use Rattle.ledger.proofs.CashLaws.{cash_pay, cash_pay_each}
 use Rattle.ledger.proofs.KeyLaws.{key_future, key_month}
 use Rattle.ledger.proofs.Kept.{Good, Kept, on, at_terms}

@@ -2,7 +2,7 @@
 use Rattle.std.proofs.Common.{◌≡◌, ℕ, ◌<◌, Bool, true, false, cond, ◌&&◌, eqb, ℤ, pos, ◌+ℤ◌, ◌-ℤ◌, neg_ℤ, sym, refl, ap, ◌∙◌, subst, arith}
 use Rattle.std.proofs.lemmas.Grind.{common_steps}
 use borrow.Author.Differences.{ints}
-use Rattle.std.proofs.lemmas.Bool.{eqb-true, true≢false}
+use Rattle.std.proofs.lemmas.Bool.{eqb-true}
 use Rattle.registers.specs.Rows.{Rows, Rising}
 use Rattle.registers.specs.Sums.{total_ℤ}
 use Rattle.terms.specs.declared.kinds.AccountKind.{AccountKind}
@@ -20,7 +20,7 @@ use Rattle.ledger.specs.Ledger.{Journal, kind_in, given_in, dealt_if, position_i
 use Rattle.ledger.proofs.RowLaws.{each_at, each_more, rising_revise, each_revise, below_+, below_one}
 use Rattle.ledger.proofs.PositionLaws.{dealt_units, lots_neg, dealt_minis, series_of_key_lem, at_line, units_in, total_line}
 use Rattle.ledger.proofs.CashLaws.{cash_pay, kind_pay, total-pay, rising_pay}
-use Rattle.ledger.proofs.KeyLaws.{key_is_future, key_kind, key_inside}
+use Rattle.ledger.proofs.KeyLaws.{key_kind, key_inside}
 use Rattle.ledger.proofs.Worth.{worth_then, holding, trade_gain}
 use Rattle.ledger.proofs.Kept.{Good, NoMinis, Kept, on}
 use Rattle.ledger.proofs.Accepted.{TradePassed}

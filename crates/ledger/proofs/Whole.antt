@@ -1,19 +1,17 @@
 -- Every run leaves the book balanced and the accounts within their limits.
-use Rattle.std.proofs.Common.{◌≡◌, ℕ, ◌<◌, Bool, true, false, cond, eqb, List, [], ◌∷◌, ◌++◌, ℤ, ◌-ℤ◌, Ok, Err, sym, refl, ap, ◌∙◌, subst, arith}
+use Rattle.std.proofs.Common.{◌≡◌, ℕ, ◌<◌, false, eqb, List, [], ◌∷◌, ◌++◌, ℤ, ◌-ℤ◌, Ok, Err, sym, refl, ap, ◌∙◌, subst, arith}
 use Rattle.std.proofs.lemmas.Grind.{common_steps}
-use lib.IntN.{+ℤ_idl}
-use Rattle.std.proofs.lemmas.Bool.{le-leb, and_from, true≢false, false≢true}
+use Rattle.std.proofs.lemmas.Bool.{true≢false}
 use Rattle.registers.specs.Rows.{lookup}
 use Rattle.registers.specs.Sums.{total_ℤ}
 use Rattle.terms.specs.declared.family.Family.{Family}
 use Rattle.positions.specs.Positions.{flat, units}
 use Rattle.positions.specs.Keys.{line_key, series_of_key}
-use Rattle.ledger.specs.Calls.{Call, Pricing, Event, admit, list, trade, close, mark, delta, enter, exercise, settle}
-use Rattle.ledger.specs.Numbers.{family_of, series_kind, is_future, key_of}
+use Rattle.ledger.specs.Calls.{Call, Pricing, Event}
+use Rattle.ledger.specs.Numbers.{family_of}
 use Rattle.ledger.specs.Rows.{at}
-use Rattle.ledger.specs.Book.{Spaces, Book, opened, family_in}
-use Rattle.ledger.specs.Charges.{lapses_at}
-use Rattle.ledger.specs.Post.{post_end, post_final, post_cash, post_exercise, post}
+use Rattle.ledger.specs.Book.{Spaces, Book, opened}
+use Rattle.ledger.specs.Post.{post}
 use Rattle.ledger.specs.Judge.{Verdict, accepted}
 use Rattle.ledger.specs.Runs.{judge, afterwards, step, run}
 use Rattle.ledger.specs.Ledger.{Journal, given_in, position_in, worth, fees, exposure}
@@ -22,7 +20,7 @@ use Rattle.ledger.specs.Sound.{Sound, SoundAfterEveryRun}
 use Rattle.ledger.proofs.RowLaws.{each_more, total_kept, below_same, below_zero}
 use Rattle.ledger.proofs.CashLaws.{brings_below}
 use Rattle.ledger.proofs.Worth.{worth_then}
-use Rattle.ledger.proofs.Kept.{Good, Kept, idle_cash, idle_fees}
+use Rattle.ledger.proofs.Kept.{Good, Kept}
 use Rattle.ledger.proofs.Accepted.{also_so, Passed, passed}
 use Rattle.ledger.proofs.Steps.{by_call}
 use Rattle.ledger.proofs.Frozen.{Frozen, frozen_refused, frozen_call}

@@ -1,13 +1,10 @@
 -- The formula's sums: trades cancel, and a move of a mark moves the worth by the units that depend on it.
-use Rattle.std.proofs.Common.{◌≡◌, ℕ, ◌*◌, Bool, true, false, cond, not, ◌&&◌, eqb, [], ◌∷◌, ℤ, pos, ◌+ℤ◌, ◌-ℤ◌, neg_ℤ, sym, refl, arith}
+use Rattle.std.proofs.Common.{◌≡◌, ℕ, ◌*◌, Bool, true, false, cond, not, ◌&&◌, eqb, [], ◌∷◌, ℤ, pos, ◌+ℤ◌, ◌-ℤ◌, neg_ℤ, arith}
 use Rattle.std.proofs.lemmas.Grind.{common_steps}
 use borrow.Author.Differences.{ints}
 use Rattle.std.proofs.lemmas.Bool.Decides.{nat_tests}
-use Rattle.std.proofs.lemmas.Bool.{eqb-true}
 use Rattle.terms.specs.declared.family.Family.{Family}
 use Rattle.terms.specs.declared.kinds.SeriesKind.{SeriesKind}
-use Rattle.terms.specs.declared.kinds.SeriesKind.TheVariants.{Future, CallOnFuture, PutOnFuture}
-use Rattle.terms.specs.declared.kinds.SeriesKind.TheVariants as kinds
 use Rattle.positions.specs.Money.{amount, payoff}
 use Rattle.positions.specs.Keys.{future_key}
 use Rattle.ledger.specs.Calls.{Series, Trade, Call, admit, list, trade, close, mark, delta, enter, exercise, settle}

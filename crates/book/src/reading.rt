@@ -10,17 +10,14 @@ use crate::sealed::Book;
 use ledger::{Account, Terms};
 use positions::Position;
 use registers::Register;
-use terms::{Reason, Refusal};
+use terms::Refusal;
 
 impl Book {
     /// An account's kind and cash balance; 7 where it is not there.
     pub fn account(&self, account: u16) -> Result<Account, Refusal>
         ensures { result ≡ ok_or (lookup (book_of self.now).accounts account) (about Absent account) }
     {
-        self.tables
-            .accounts
-            .read(u64::from(account))
-            .ok_or(Refusal::about(Reason::Absent, account))
+        self.tables.account(account)
     }
 
     /// The exchange's cash balance.

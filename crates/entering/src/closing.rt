@@ -5,17 +5,11 @@ ghost use Rattle.ledger.specs.Numbers.{key_of};
 ghost use Rattle.tables.specs.Model.{model_of, bare, Judges, Follows, numbered};
 ghost use Rattle.entering.specs.Closed.{ClosedAt};
 
+use crate::keyed::Keyed;
 use positions::{Position, line_key, series_key};
 use series::{Series, SeriesNumbers};
 use tables::{InUse, Tables, place};
 use terms::{AccountNumber, Contracts, Reason, Refusal};
-
-/// A position after a close, and its key.
-#[derive(Clone, Copy)]
-struct Remaining {
-    key: u64,
-    position: Position,
-}
 
 /// Closes `count` fulls against five times as many minis of opposite sign in an account's position: 4 for a number out
 /// of range, 5 for a strike off its step, 7 for an absent account and then an absent series, 11 where there are not so
@@ -29,7 +23,7 @@ pub fn close(
     ensures { Follows (bare (close (numbered numbers) account count)) tables.old tables.new result }
 {
     let left = closed(&tables.in_use()?, numbers, account, count)?;
-    let _ = place(&mut tables.positions, left.key, left.position);
+    let _ = place(&mut tables.positions, left.key, left.value);
     Ok(())
 }
 
@@ -39,7 +33,7 @@ fn closed(
     numbers: SeriesNumbers,
     account: u16,
     count: u32,
-) -> Result<Remaining, Refusal>
+) -> Result<Keyed<Position>, Refusal>
     ensures { Judges (judge_close (model_of book.now.tables.now) (numbered numbers) account count) (ClosedAt book.now.tables.now (key_of (numbered numbers)) account count) result }
 {
     let series = Series::numbered(book.family, numbers)?;
@@ -48,18 +42,12 @@ fn closed(
     if !series.on_step(book.family) {
         return Err(Refusal::plain(Reason::OffStep));
     }
-    book.tables
-        .accounts
-        .read(u64::from(account))
-        .ok_or(Refusal::about(Reason::Absent, account))?;
-    book.tables
-        .series
-        .read(series_key(series))
-        .ok_or(Refusal::plain(Reason::Absent))?;
+    book.tables.account(account)?;
+    book.tables.listed(series_key(series))?;
     let key = line_key(series, account);
     let held = book.tables.positions.read(key).unwrap_or_default();
-    let position = held
+    let value = held
         .closed(fulls.count())
         .ok_or(Refusal::about(Reason::CloseExceeds, account))?;
-    Ok(Remaining { key, position })
+    Ok(Keyed { key, value })
 }

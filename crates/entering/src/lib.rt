@@ -4,6 +4,7 @@
 mod admission;
 mod closing;
 mod deltas;
+mod keyed;
 mod listing;
 mod months;
 

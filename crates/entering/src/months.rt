@@ -4,18 +4,12 @@ ghost use Rattle.ledger.specs.Runs.{judge};
 ghost use Rattle.tables.specs.Model.{model_of, Judges};
 ghost use Rattle.entering.specs.Entered.{FutureAt, entering, Enters};
 
+use crate::keyed::Keyed;
 use fixings::ClosedFixing;
 use ledger::{State, Terms};
 use positions::future_key;
 use tables::Tables;
 use terms::{Month, Reason, Refusal};
-
-/// A month's future: its key, and its mark.
-#[derive(Clone, Copy)]
-struct FutureFound {
-    key: u64,
-    mark: i32,
-}
 
 /// Gives a closed fixing to a month, which fixes its final price: 4 for a month out of range or a fixing of another
 /// family, 7 where the month's future is not listed, 8 where it is not trading. The fixing is used up, and given back
@@ -28,21 +22,21 @@ pub fn enter(
     ensures { Enters month fixing tables.old tables.new result }
 {
     // `map_err` would have to move the fixing into its closure.
-    let future = match future_for(tables, month, &fixing) {
-        Ok(future) => future,
+    let mark = match future_for(tables, month, &fixing) {
+        Ok(mark) => mark,
         Err(refusal) => return Err((refusal, fixing)),
     };
     let (_, price) = fixing.spend();
     let terms = Terms {
-        value: future.mark,
+        value: mark.value,
         state: State::Fixed(price),
     };
-    let _ = tables.series.put(future.key, terms);
+    let _ = tables.series.put(mark.key, terms);
     Ok(())
 }
 
-// The month's future, where the fixing may be given to the month.
-fn future_for(tables: &Tables, month: u16, fixing: &ClosedFixing) -> Result<FutureFound, Refusal>
+// The mark of the month's future, where the fixing may be given to the month.
+fn future_for(tables: &Tables, month: u16, fixing: &ClosedFixing) -> Result<Keyed<i32>, Refusal>
     ensures { Judges (judge (model_of tables.now) (entering month fixing.now)) (FutureAt tables.now month) result }
 {
     let book = tables.in_use()?;
@@ -51,8 +45,8 @@ fn future_for(tables: &Tables, month: u16, fixing: &ClosedFixing) -> Result<Futu
         return Err(Refusal::plain(Reason::OutOfRange));
     }
     let future = tables.trading_future(month)?;
-    Ok(FutureFound {
+    Ok(Keyed {
         key: future_key(month),
-        mark: future.value,
+        value: future.value,
     })
 }

@@ -5,6 +5,7 @@ mod in_use;
 mod months;
 mod opening;
 mod placing;
+mod reading;
 mod space;
 mod tables;
 

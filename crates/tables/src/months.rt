@@ -14,10 +14,7 @@ impl Tables {
     pub fn trading_future(&self, month: Month) -> Result<Terms, Refusal>
         ensures { Judges (trading (model_of self.now) month.number) (λ t. t ≡ terms_at (model_of self.now) (future_key month.number)) result }
     {
-        let future = self
-            .series
-            .read(future_key(month))
-            .ok_or(Refusal::plain(Reason::Absent))?;
+        let future = self.listed(future_key(month))?;
         if !future.state.is_trading() {
             return Err(Refusal::plain(Reason::WrongState));
         }

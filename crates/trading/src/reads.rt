@@ -1,10 +1,6 @@
 // Who and what a deal concerns: refused by 7 where one is not there, by 8 where the states do not allow it, and by 9
 // where the buyer is the seller.
 ghost use Rattle.std.specs.Prelude.{◌≡◌};
-ghost use Rattle.std.specs.Option.{ok_or};
-ghost use Rattle.terms.specs.declared.refusal.Reason.TheVariants.{Absent};
-ghost use Rattle.terms.specs.Refusals.{about};
-ghost use Rattle.registers.specs.Rows.{lookup};
 ghost use Rattle.ledger.specs.Book.{month_at};
 ghost use Rattle.tables.specs.Model.{Judges, model_of};
 ghost use Rattle.trading.specs.Deals.{trade_in};
@@ -13,20 +9,10 @@ ghost use Rattle.trading.specs.Found.{parties_at};
 
 use crate::deal::Deal;
 use crate::found::Parties;
-use ledger::{Account, State};
+use ledger::State;
 use positions::{future_key, series_key};
 use tables::Tables;
-use terms::{AccountNumber, Month, Reason, Refusal};
-
-fn account(tables: &Tables, account: AccountNumber) -> Result<Account, Refusal>
-    ensures { result ≡ ok_or (lookup (model_of tables.now).accounts account.number) (about Absent account.number) }
-{
-    let number = account.number();
-    tables
-        .accounts
-        .read(u64::from(number))
-        .ok_or(Refusal::about(Reason::Absent, number))
-}
+use terms::{Month, Reason, Refusal};
 
 // The state of a month, which stands with its future.
 fn month_state(tables: &Tables, month: Month) -> State
@@ -43,12 +29,9 @@ fn month_state(tables: &Tables, month: Month) -> State
 pub(crate) fn parties(tables: &Tables, deal: &Deal) -> Result<Parties, Refusal>
     ensures { Judges (known (model_of tables.now) (trade_in deal.now)) (λ q. q ≡ parties_at (model_of tables.now) (trade_in deal.now)) result }
 {
-    let buyer = account(tables, deal.buyer)?;
-    let seller = account(tables, deal.seller)?;
-    let terms = tables
-        .series
-        .read(series_key(deal.series))
-        .ok_or(Refusal::plain(Reason::Absent))?;
+    let buyer = tables.account(deal.buyer.number())?;
+    let seller = tables.account(deal.seller.number())?;
+    let terms = tables.listed(series_key(deal.series))?;
     let month = month_state(tables, deal.series.month());
     if !month.is_trading() || terms.state.is_done() {
         return Err(Refusal::plain(Reason::WrongState));

@@ -23,7 +23,7 @@ loop-key-preserved c =
     c.into_iter-key-iterator.result c.loop-key.key-iterator c.next.new.self c.next.result
     (cc) (cc) c.loop-key.yielded_by (c.in-Some.key, c.in-Some.position) c.in-Some.is c.next.ensures.steps in
     let room = within_room t.positions in
-    let most = c.args.book.now.room in
+    let most = c.args.book.now.positions.1 in
     let long = c.keys.ensures.len in
     let l : n < length rs = omega (arith, turn.0) in
     let m = one_more f rs n flat l in

@@ -1,4 +1,3 @@
-ghost use Rattle.std.specs.Prelude.{◌≡◌, ◌≤◌};
 ghost use Rattle.ledger.specs.Calls.{close};
 ghost use Rattle.ledger.specs.Judge.{judge_close};
 ghost use Rattle.ledger.specs.Numbers.{key_of};

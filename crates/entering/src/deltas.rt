@@ -1,7 +1,4 @@
-ghost use Rattle.std.specs.Prelude.{◌≡◌, ◌≤◌};
-ghost use Rattle.terms.specs.Kinds.{kind_number};
 ghost use Rattle.positions.specs.Keys.{series_key};
-ghost use Rattle.ledger.specs.Book.{state_at};
 ghost use Rattle.ledger.specs.Calls.{delta};
 ghost use Rattle.ledger.specs.Judge.{judge_delta};
 ghost use Rattle.ledger.specs.Numbers.{key_of};

@@ -1,14 +1,11 @@
-ghost use Rattle.std.specs.Prelude.{◌≡◌, ◌≤◌, ◌||◌, Ok};
-ghost use Rattle.terms.specs.declared.refusal.Reason.TheVariants.{Absent, WrongState};
+ghost use Rattle.std.specs.Prelude.{◌≡◌, Ok};
 ghost use Rattle.terms.specs.Refusals.{plain};
 ghost use Rattle.terms.specs.Kinds.{kind_number};
-ghost use Rattle.positions.specs.Keys.{series_key, future_key};
-ghost use Rattle.ledger.specs.Book.{state_at, is_trading};
+ghost use Rattle.positions.specs.Keys.{series_key};
 ghost use Rattle.ledger.specs.Calls.{list};
-ghost use Rattle.ledger.specs.Judge.{need, judge_list};
-ghost use Rattle.ledger.specs.Numbers.{first_in, delta_range, is_future, key_of};
+ghost use Rattle.ledger.specs.Judge.{judge_list};
+ghost use Rattle.ledger.specs.Numbers.{first_in, delta_range, key_of};
 ghost use Rattle.ledger.specs.Post.{post};
-ghost use Rattle.ledger.specs.Rows.{present};
 ghost use Rattle.tables.specs.Model.{model_of, unpriced, bare, Judges, Follows, numbered};
 
 use ledger::{State, Terms};

@@ -1,4 +1,3 @@
-ghost use Rattle.std.specs.Prelude.{◌≡◌, ◌≤◌};
 ghost use Rattle.positions.specs.Keys.{future_key};
 ghost use Rattle.ledger.specs.Runs.{judge};
 ghost use Rattle.tables.specs.Model.{model_of, Judges};

@@ -1,4 +1,3 @@
-ghost use Rattle.std.specs.Prelude.{◌≡◌};
 ghost use Rattle.registers.specs.Keys.{Ascending, Split};
 
 // How many of the keys are less than the key, by a search of which no branch depends on a key that is read.

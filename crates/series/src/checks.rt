@@ -1,4 +1,4 @@
-ghost use Rattle.std.specs.Prelude.{◌≡◌, ◌%◌, ◌≤◌, pos, negsuc, ◌≤ℤ◌, ◌==◌};
+ghost use Rattle.std.specs.Prelude.{◌≡◌, ◌%◌, ◌≤◌, ◌==◌};
 ghost use Rattle.terms.specs.Families.{bands_of};
 ghost use Rattle.terms.specs.Steps.{step_in};
 ghost use Rattle.series.specs.Listing.{offers, size_in, takes_strike, SeriesNumbered, SeriesChecked, DeltaChecked, AnyDelta};

@@ -1,7 +1,6 @@
 //! The strike lists around a closing level.
 #![tactic(auto)]
 
-ghost use Rattle.std.specs.Prelude.{◌≡◌, ℕ, ◌≤◌};
 ghost use Rattle.strikelists.specs.Lists.{NearestAnswer, ListAnswer, OneNearest, OneList, Worked};
 ghost use Rattle.strikelists.specs.Strikes.{Nearest};
 ghost use Rattle.terms.specs.declared.family.Family.TheVariants.{HangSeng};

@@ -1,4 +1,3 @@
-ghost use Rattle.std.specs.Prelude.{◌≡◌};
 ghost use Rattle.std.proofs.Common.{ap, rules};
 ghost use Rattle.tariffs.specs.Choice.{chosen_price, chosen_after};
 ghost use Rattle.either.specs.declared.Either.TheVariants.{Left, Right};

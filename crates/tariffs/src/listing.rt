@@ -1,7 +1,7 @@
-ghost use Rattle.std.specs.Prelude.{◌≡◌, ◌*◌, ◌<◌, replicate, None, slice_index_or, slice_set};
+ghost use Rattle.std.specs.Prelude.{◌≡◌, ◌*◌, ◌<◌, replicate, None, slice_index_or};
 ghost use Rattle.terms.specs.Kinds.{kind_number, size_number, account_kind_number};
 ghost use Rattle.tariffs.specs.Sides.{event_number, within};
-ghost use Rattle.tariffs.specs.Rates.{cents_of, fee_by};
+ghost use Rattle.tariffs.specs.Rates.{fee_by};
 ghost use Rattle.tariffs.specs.Listed.{place_number, Apart, listed, listed_price, Lists, place_of};
 ghost use Rattle.tariffs.specs.Bounds.{fee_by_le, within_le};
 ghost use Rattle.std.proofs.Common.{rules};

@@ -1,4 +1,4 @@
-ghost use Rattle.std.specs.Prelude.{◌≡◌, ℕ, ◌*◌, ◌≤◌, true, false, Some, None, Option};
+ghost use Rattle.std.specs.Prelude.{◌≡◌, ℕ, ◌*◌, ◌≤◌, false, Some, None, Option};
 ghost use Rattle.tariffs.specs.declared.side.Side.{Side};
 ghost use Rattle.tariffs.specs.Sides.{within};
 

@@ -1,4 +1,4 @@
-ghost use Rattle.std.specs.Prelude.{◌≡◌, ℕ, ◌<◌, true, List};
+ghost use Rattle.std.specs.Prelude.{◌≡◌, ◌<◌, true, List};
 ghost use Rattle.terms.specs.Numbers.{Numbered};
 ghost use Rattle.terms.specs.Families.{family_number, cents_of, tick_of, limit_of, minis_in, future_options_in, bands_of};
 ghost use Rattle.terms.specs.Steps.{joined, Unbroken};

@@ -1,4 +1,4 @@
-ghost use Rattle.std.specs.Prelude.{◌≡◌, ℕ, ◌<◌};
+ghost use Rattle.std.specs.Prelude.{◌≡◌, ◌<◌};
 ghost use Rattle.terms.specs.Numbers.{Numbered};
 ghost use Rattle.terms.specs.Kinds.{kind_number, account_kind_number, size_number, units_in};
 

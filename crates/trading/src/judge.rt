@@ -1,5 +1,4 @@
 // All tests of a trade, in their order. Nothing is written.
-ghost use Rattle.std.specs.Prelude.{◌≡◌, Ok};
 ghost use Rattle.charges.specs.Fees.{rated_all};
 ghost use Rattle.ledger.specs.Calls as calls;
 ghost use Rattle.ledger.specs.Charges.{charged};

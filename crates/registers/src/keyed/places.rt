@@ -1,9 +1,9 @@
 // Rows by their places.
-ghost use Rattle.std.specs.Prelude.{◌≡◌, ◌<◌, ◌≤◌, ◌++◌, length, take, drop, Some, None, Ok, Err, MatchResult, slice_index, slice_index_or, slice_set};
-ghost use Rattle.std.specs.List.{insert, remove, slice_get};
+ghost use Rattle.std.specs.Prelude.{◌≡◌, ◌<◌, Some, None, Ok, Err, MatchResult};
+ghost use Rattle.std.specs.List.{slice_get};
 ghost use Rattle.registers.specs.Keys.{Found, Split};
-ghost use Rattle.registers.specs.Rows.{below, keys_in, contents_in, lookup};
-ghost use Rattle.registers.specs.Held.{keys_of, contents_of, rows_of, room_of};
+ghost use Rattle.registers.specs.Rows.{below, contents_in, lookup};
+ghost use Rattle.registers.specs.Held.{keys_of, rows_of};
 
 use super::Register;
 use crate::seek::count_below;

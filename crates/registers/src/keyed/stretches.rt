@@ -3,7 +3,7 @@ ghost use Rattle.std.specs.Prelude.{◌≡◌, ℕ, ◌-◌, ◌≤◌, List, �
 ghost use Rattle.std.specs.Borrow.{sem, Array, follows};
 ghost use Rattle.std.specs.List.{slice_get, zip, between};
 ghost use Rattle.std.specs.Option.{option_map};
-ghost use Rattle.registers.specs.Rows.{below, keys_in, contents_in, Rising};
+ghost use Rattle.registers.specs.Rows.{keys_in, contents_in, Rising};
 ghost use Rattle.registers.specs.Stretches.{front, stretch, rest, StretchAt, patched, rewritten};
 ghost use Rattle.registers.specs.Held.{rows_of, room_of, with_contents};
 ghost use Rattle.registers.specs.contracts.keyed.Register.{the_row};

@@ -6,7 +6,7 @@ use crate::one::fee_of;
 use tariffs::{Side, Tariff};
 use terms::Refusal;
 
-/// The fees of the buyer and of the seller of a trade. Two fees need no lent space, as `quote_all` does.
+/// The fees of the buyer and of the seller of a trade. Two fees need no lent space; `quote_all` does.
 pub fn quote_both<T: Tariff>(tariff: &T, buyer: &Side, seller: &Side) -> Result<(u64, u64), Refusal>
     ensures answer { result ≡ rated_both (T.Tariff.price tariff.now) buyer.now seller.now }
     ensures bound { BothBounded buyer.now seller.now result }

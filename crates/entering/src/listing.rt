@@ -26,6 +26,7 @@ fn takes_first(kind: SeriesKind, first: i32) -> bool
     ensures { result ≡ first_in kind first }
 {
     match kind {
+        // A first mark is signed, as deltas are, so it is no `Price` yet.
         SeriesKind::Future => (1..=10_000_000).contains(&first),
         _ => takes_delta(kind, first),
     }

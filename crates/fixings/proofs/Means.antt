@@ -2,17 +2,17 @@
 use Rattle.std.proofs.Common.{◌≡◌, ℕ, ◌+◌, ◌*◌, ◌/◌, ◌<◌, ◌≤◌, List, [], ◌∷◌, ◌++◌, length, sum, ap, div-add-mod', le-div_iff_mul-le, div-mul-le_self, arith}
 use native.Mathlib.Nat.{mul-mod_left, lt-div-mul-add}
 use Rattle.std.proofs.lemmas.List.{length_push}
-use Rattle.std.proofs.lemmas.List.Sums.{sum_by-le}
-use Rattle.std.proofs.lemmas.List.Elements.{All-from_get_or}
+use Rattle.std.proofs.lemmas.List.Sums.{sum_by-cons}
 use Rattle.terms.specs.declared.family.Family.{Family}
 use Rattle.terms.specs.declared.family.Family.TheVariants.{HangSeng, ChinaEnterprises, MsciTaiwan}
 use Rattle.terms.specs.Extremes.{Greatest}
-use Rattle.fixings.specs.Bounds.{NoneAbove}
-use Rattle.fixings.specs.Finals.{final_price, lowered, rounded, WholePoints, Nearest, IsFinal}
+use Rattle.fixings.specs.declared.level.Level.{Level}
+use Rattle.fixings.specs.Finals.{in_hundredths, final_price, lowered, rounded, WholePoints, Nearest, IsFinal}
 
--- a sum of which no term passes the highest price
-pub sum_most : (xs : List ℕ) → NoneAbove 10000000 xs → sum xs ≤ 10000000 * length xs
-sum_most xs h = grind (arith, sum_by-le (λ x. x) 10000000 xs (All-from_get_or (λ x. x ≤ 10000000) xs 0 h))
+-- a sum of levels, of which none passes the highest one
+pub sum_most : (ls : List Level) → sum (in_hundredths ls) ≤ 10000000 * length ls
+sum_most [] = omega arith
+sum_most (l ∷ ls) = omega (arith, l.most, sum_most ls, sum_by-cons (λ x. x) l.hundredths (in_hundredths ls))
 
 greatest : (xs : List ℕ) → 0 < length xs → Greatest (WholePoints xs) (lowered xs)
 greatest xs some =

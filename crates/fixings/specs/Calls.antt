@@ -7,11 +7,11 @@ use Rattle.terms.specs.Ranges.{Within, PriceRange}
 use Rattle.terms.specs.Families.{family_number}
 use Rattle.fixings.specs.declared.open.OpenFixing.{OpenFixing}
 use Rattle.fixings.specs.declared.closed.ClosedFixing.{ClosedFixing}
-use Rattle.fixings.specs.Finals.{final_price, IsFinal}
+use Rattle.fixings.specs.Finals.{in_hundredths, final_price, IsFinal}
 
 -- the samples so far, in the order in which they came
 abbrev pub taken : OpenFixing → List ℕ
-taken o = o.samples.items
+taken o = in_hundredths o.samples.items
 
 -- samples are still to come
 abbrev pub Lacking : OpenFixing → Type 0

@@ -1,8 +1,13 @@
 -- The final price: the mean of all samples and the close, in hundredths of a point.
-use Rattle.std.specs.Prelude.{◌≡◌, ℕ, ◌+◌, ◌*◌, ◌/◌, ◌%◌, ◌<◌, ◌≤◌, List, length, sum}
+use Rattle.std.specs.Prelude.{◌≡◌, ℕ, ◌+◌, ◌*◌, ◌/◌, ◌%◌, ◌<◌, ◌≤◌, List, map, length, sum}
 use Rattle.terms.specs.Extremes.{Greatest}
 use Rattle.terms.specs.declared.family.Family.{Family}
 use Rattle.terms.specs.declared.family.Family.TheVariants.{HangSeng, ChinaEnterprises, MsciTaiwan}
+use Rattle.fixings.specs.declared.level.Level.{Level}
+
+-- the levels as numbers, in hundredths of a point
+abbrev pub in_hundredths : List Level → List ℕ
+in_hundredths levels = map (λ l. l.hundredths) levels
 
 -- the mean, lowered to a whole point
 abbrev pub lowered : List ℕ → ℕ

@@ -2,6 +2,7 @@ ghost use Rattle.std.specs.Prelude.{◌≡◌, [], ◌∷◌};
 ghost use Rattle.fixings.specs.Finals.{final_price};
 ghost use Rattle.terms.specs.declared.family.Family.TheVariants.{HangSeng, MsciTaiwan};
 
+use crate::level::Level;
 use crate::mean::final_price;
 use terms::Family;
 
@@ -11,7 +12,24 @@ pub fn worked_figures() -> u8
     ensures taiwan { final_price MsciTaiwan (81234 ∷ 81235 ∷ []) ≡ 81235 }
     ensures both { result ≡ 2 }
 {
-    let hang_seng = final_price(Family::HangSeng, &[2_012_345, 2_013_010], 2_012_550);
-    let taiwan = final_price(Family::MsciTaiwan, &[81_234], 81_235);
+    let hang_seng = final_price(
+        Family::HangSeng,
+        &[
+            Level {
+                hundredths: 2_012_345,
+            },
+            Level {
+                hundredths: 2_013_010,
+            },
+        ],
+        Level {
+            hundredths: 2_012_550,
+        },
+    );
+    let taiwan = final_price(
+        Family::MsciTaiwan,
+        &[Level { hundredths: 81_234 }],
+        Level { hundredths: 81_235 },
+    );
     u8::from(hang_seng.hundredths == 2_012_600) + u8::from(taiwan.hundredths == 81_235)
 }

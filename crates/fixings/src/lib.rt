@@ -3,6 +3,7 @@
 
 mod closed;
 mod figures;
+mod level;
 mod mean;
 mod open;
 #[cfg(test)]

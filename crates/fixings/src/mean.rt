@@ -1,8 +1,7 @@
 ghost use Rattle.std.specs.Prelude.{◌≡◌, ◌+◌, ◌*◌, ◌/◌, ◌<◌, ◌≤◌, [], ◌∷◌, ◌++◌, length, sum};
-ghost use Rattle.fixings.specs.Finals.{final_price, IsFinal};
-ghost use Rattle.fixings.specs.Bounds.{NoneAbove};
+ghost use Rattle.fixings.specs.Finals.{in_hundredths, final_price, IsFinal};
 
-use crate::closed::FinalPrice;
+use crate::level::Level;
 use terms::Family;
 
 /// A whole point, in hundredths.
@@ -20,12 +19,10 @@ struct Prices {
 
 /// The final price that the samples and the close make for the family.
 #[tactic(auto, using(crate::proofs::Means::meant))]
-pub(crate) fn final_price(family: Family, samples: &[u32], close: u32) -> FinalPrice
+pub(crate) fn final_price(family: Family, samples: &[Level], close: Level) -> Level
     requires few { length samples.now ≤ 200 }
-    requires prices { NoneAbove 10000000 samples.now }
-    requires price { close ≤ 10000000 }
-    ensures value { result.hundredths ≡ final_price family (samples.now ++ close ∷ []) }
-    ensures meaning { IsFinal family (samples.now ++ close ∷ []) result.hundredths }
+    ensures value { result.hundredths ≡ final_price family (in_hundredths samples.now ++ close.hundredths ∷ []) }
+    ensures meaning { IsFinal family (in_hundredths samples.now ++ close.hundredths ∷ []) result.hundredths }
 {
     let prices = Prices::of(samples, close);
     match family {
@@ -36,36 +33,37 @@ pub(crate) fn final_price(family: Family, samples: &[u32], close: u32) -> FinalP
 
 impl Prices {
     // The samples and the close.
-    fn of(samples: &[u32], close: u32) -> Prices
+    fn of(samples: &[Level], close: Level) -> Prices
         requires few { length samples.now ≤ 200 }
-        requires prices { NoneAbove 10000000 samples.now }
-        requires price { close ≤ 10000000 }
-        ensures total { result.sum ≡ sum (samples.now ++ close ∷ []) }
-        ensures number { result.count ≡ length (samples.now ++ close ∷ []) }
+        ensures total { result.sum ≡ sum (in_hundredths samples.now ++ close.hundredths ∷ []) }
+        ensures number { result.count ≡ length (in_hundredths samples.now ++ close.hundredths ∷ []) }
     {
-        let total: u64 = samples.iter().map(|price| u64::from(*price)).sum();
+        let total: u64 = samples
+            .iter()
+            .map(|level| u64::from(level.hundredths))
+            .sum();
         Prices {
-            sum: total + u64::from(close),
+            sum: total + u64::from(close.hundredths),
             count: samples.len() as u64 + 1,
         }
     }
 
     // The mean, lowered to a whole point.
-    fn lowered(self) -> FinalPrice
+    fn lowered(self) -> Level
         ensures { result.hundredths ≡ self.sum / (100 * self.count) * 100 }
     {
         let price = self.sum / (POINT * self.count) * POINT;
-        FinalPrice {
+        Level {
             hundredths: price as u32,
         }
     }
 
     // The mean, rounded to hundredths, a half upwards.
-    fn rounded(self) -> FinalPrice
+    fn rounded(self) -> Level
         ensures { result.hundredths ≡ (2 * self.sum + self.count) / (2 * self.count) }
     {
         let twice = 2 * self.sum + self.count;
-        FinalPrice {
+        Level {
             hundredths: (twice / (2 * self.count)) as u32,
         }
     }

@@ -1,6 +1,6 @@
 ghost use Rattle.std.specs.Prelude.{◌≤◌, length};
-ghost use Rattle.fixings.specs.Bounds.{NoneAbove};
 
+use crate::level::Level;
 use arrayvec::ArrayVec;
 use terms::Family;
 
@@ -13,9 +13,8 @@ const MOST_SAMPLES: usize = 200;
 pub struct OpenFixing {
     pub(crate) family: Family,
     pub(crate) expected: usize,
-    pub(crate) samples: ArrayVec<u32, MOST_SAMPLES>,
+    pub(crate) samples: ArrayVec<Level, MOST_SAMPLES>,
     ghost some: { 1 ≤ expected },
     ghost most: { expected ≤ 200 },
     ghost within: { length samples.items ≤ expected },
-    ghost prices: { NoneAbove 10000000 samples.items },
 }

@@ -38,6 +38,7 @@ impl From<AllocFailed<u32>> for Unreadable {
     }
 }
 
+// No derive prints what is no error.
 impl fmt::Display for Field {
     fn fmt<W: fmt::Write>(&self, f: &mut fmt::Formatter<W>) -> fmt::Result {
         f.write_str(match self {

@@ -64,8 +64,5 @@ one_reading w (Err TooLarge) (Err NotANumber) h k = absurd (formed w h.0 h.1 k)
 one_reading w (Err TooLarge) (Err TooFine) h k = absurd (not_over w h.0 h.1 k)
 one_reading w (Err TooLarge) (Err TooLarge) h k = refl
 
-pub only_number : (w : List ℕ) (r : Result ℕ Misread) → Number w r → Only (Number w) r
-only_number w r h = record { holds = h; alone = λ s k. one_number w s r k h }
-
 pub only_reading : (w : List ℕ) (r : Result ℕ Misread) → Hundredths w r → Only (Hundredths w) r
 only_reading w r h = record { holds = h; alone = λ s k. one_reading w s r k h }

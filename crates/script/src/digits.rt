@@ -29,6 +29,7 @@ impl<'a> TryFrom<&'a [u8]> for Digits<'a> {
 }
 
 impl Digits<'_> {
+    // The library's `parse` reads a sign too, and does not say which numbers are too large.
     /// The number that the digits write, or `TooLarge`.
     pub(crate) fn value(self) -> Result<u32, Misread>
         ensures { Fitting (value self.entry.word.now) result }

@@ -22,6 +22,7 @@ pub enum Misread {
     TooLarge,
 }
 
+// By hand, since the contract states the bytes that are written.
 /// What is said of the word.
 impl fmt::Display for Misread {
     ghost output = { λ m. Some (misread_text m) };

@@ -15,6 +15,7 @@ impl fmt::Display for Points {
 
     fn fmt<W: fmt::Write>(&self, f: &mut fmt::Formatter<W>) -> fmt::Result {
         let whole = self.0 / 100;
+        // `{:02}` was tried: that it writes these two digits was not proved.
         let tens = self.0 / 10 % 10;
         let ones = self.0 % 10;
         write!(f, "{whole}.{tens}{ones}")

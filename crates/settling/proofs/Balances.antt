@@ -38,9 +38,6 @@ module _ (cs : Rows Account) (a : ℕ) (x : ℤ) (c : Account) (h : SFits w64 c.
   fits : affords cs a x ≡ true → SFits w64 sum
   fits e = let b = leb-true _ _ (sym affords_is ∙ e) in omega (arith, ints)
 
-  pub sum_fits : affords cs a x ≡ true → SFits w64 sum
-  sum_fits e = fits e
-
   pub paid_is : affords cs a x ≡ true → put a (record { kind = c.kind; cash = to_z w64 (of_z w64 sum) }) cs ≡ pay a x cs
   unfolding pay change
   paid_is e =

@@ -18,6 +18,7 @@ impl Gain {
         if hundredths.unsigned_abs() > FARTHEST {
             return None;
         }
+        // For one unit, over 64 bits: `positions::amount` takes 32 bits of hundredths.
         let cents = i64::from(family.cents_per_hundredth()) * hundredths;
         Some(Gain { cents })
     }

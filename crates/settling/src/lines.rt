@@ -36,6 +36,7 @@ pub(crate) fn post_line(accounts: &mut Register<Account>, key: u64, amount: i64)
     }
 }
 
+// Keys and positions come apart, since a register lends its contents for writing without its keys.
 /// Tests what each position gets: the first account in the order of keys whose balance would leave its range is refused.
 pub(crate) fn test_gains(
     accounts: &Register<Account>,

@@ -6,7 +6,7 @@ use crate::grid::{Middle, StrikeGrid};
 use terms::Price;
 
 impl StrikeGrid {
-    // The greatest strike at or below `point`, or 0 where there is none.
+    // The greatest strike at or below `point`, or 0 where there is none: 0 is no strike, and `nearest` goes on from it.
     #[tactic(auto, using(crate::proofs::Neighbours::floors))]
     fn at_or_below(&self, point: u32) -> u32
         ensures below { result ≤ point }

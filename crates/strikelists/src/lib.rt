@@ -49,7 +49,7 @@ pub fn strikes(family: u8, level: u32, out: &mut [u32]) -> Result<usize, Refusal
 }
 
 /// Worked examples in family 0: level 20,126 gives A = 20,200 and 32 strikes from 18,100 to 22,400; level 4,975 lies
-/// midway and gives A = 4,950. The code does nothing: what counts is the statement.
+/// midway and gives A = 4,950. The code does nothing but answer 0: what counts is the statement.
 pub fn worked_lists() -> u8
     ensures list { Worked HangSeng 2012600 20200 32 18100 22400 }
     ensures midway { Nearest (bands_of HangSeng) 497500 4950 }

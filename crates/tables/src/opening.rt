@@ -29,6 +29,7 @@ impl Tables {
     pub fn usable(&self) -> Result<Family, Refusal>
         ensures { Judges (judge_opening self.now.family (spaces_of self.now)) (λ f. family_of self.now.family ≡ f) result }
     {
+        // With `map` the proof did not close.
         Ok(self.in_use()?.family)
     }
 

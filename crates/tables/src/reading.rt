@@ -26,8 +26,6 @@ impl Tables {
     pub fn listed(&self, key: u64) -> Result<Terms, Refusal>
         ensures { Judges (need (present (model_of self.now).series key) (plain Absent) (Ok tt)) (λ t. t ≡ terms_at (model_of self.now) key) result }
     {
-        self.series
-            .read(key)
-            .ok_or(Refusal::plain(Reason::Absent))
+        self.series.read(key).ok_or(Refusal::plain(Reason::Absent))
     }
 }

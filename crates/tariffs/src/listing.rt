@@ -14,7 +14,7 @@ use terms::{AccountKind, Refusal, SeriesKind, Size};
 /// How many kinds of sides have a rate of their own: 5 kinds of series, 2 sizes, 3 kinds of account, 2 events.
 const PLACES: usize = 60;
 
-/// A rate, or none, for each kind of side.
+/// A rate, or none, for each kind of side: one row, since arrays in arrays would be indexed four times for each rate.
 #[derive(Clone, Copy)]
 pub struct Listing {
     pub(crate) rates: [Option<Rate>; PLACES],

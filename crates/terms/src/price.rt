@@ -12,6 +12,8 @@ pub struct Price {
     ghost most: { hundredths ≤ 10000000 },
 }
 
+// A type for each unit, here and in `month`, `account`, `contracts` and the rates of `tariffs`, with one law: a generic over
+// width and bounds would say the units in constants. So too the enums by their numbers in `family` and `kinds`.
 /// The price of so many hundredths of a point.
 impl TryFrom<u32> for Price {
     type Error = Refusal;

@@ -8,7 +8,8 @@ pub struct StepBand {
     pub step: u32,
 }
 
-/// How far apart strikes lie: four bands, ascending. A table of fewer repeats its last, so that each family's is one constant.
+/// How far apart strikes lie: four bands, ascending, so that a table is a constant and needs no space of its own. A table of
+/// fewer repeats its last.
 #[derive(Clone, Copy)]
 pub struct StepTable {
     pub bands: [StepBand; 4],

@@ -6,6 +6,7 @@ use crate::refusal::{NO_ACCOUNT, Reason, Refusal};
 use std::error::Error;
 use std::fmt;
 
+// By hand, since the contract states the bytes that are written.
 impl fmt::Display for Reason {
     ghost output = { λ r. Some (reason_text r) };
 

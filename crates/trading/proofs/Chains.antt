@@ -1,5 +1,5 @@
 -- Chains of tests: what a passed one and a refused one say.
-use Rattle.std.proofs.Common.{◌≡◌, ℕ, Bool, true, false, ◌&&◌, Ok, Err, refl, arith}
+use Rattle.std.proofs.Common.{◌≡◌, ℕ, Bool, true, false, Ok, Err, refl, arith}
 use Rattle.terms.specs.declared.refusal.Refusal.{Refusal}
 use Rattle.ledger.specs.Judge.{Verdict, need, also}
 
@@ -13,13 +13,6 @@ pub alone : (c : Bool) (e r : Refusal) → need c e (Ok tt) ≡ Err r → (c ≡
 unfolding need
 alone true e r h = absurd (let z : ◌≡◌ {A = ℕ} 0 1 = cc in omega arith)
 alone false e r h = (refl, cc)
-
--- two tests with one refusal
-pub either_fails : (c d : Bool) (e : Refusal) (v : Verdict) → (c && d) ≡ false → need c e (need d e v) ≡ Err e
-unfolding need
-either_fails true true e v h = absurd (let z : ◌≡◌ {A = Bool} true false = h in let y : ◌≡◌ {A = ℕ} 0 1 = cc in omega arith)
-either_fails true false e v h = refl
-either_fails false d e v h = refl
 
 pub also_need : (c : Bool) (e : Refusal) (v w : Verdict) → also (need c e v) w ≡ need c e (also v w)
 unfolding need also

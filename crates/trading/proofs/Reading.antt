@@ -17,7 +17,3 @@ module _ {V : Type 0} (d : V) (rs : Rows V) (k j : ℕ) where
 pub took : {V : Type 0} (c : Bool) (x y : V) → Some x ≡ cond c (Some y) None → (c ≡ true) × (x ≡ y)
 took true x y h = (refl, cc)
 took false x y h = absurd (let z : ◌≡◌ {A = ℕ} 0 1 = cc in omega arith)
-
-pub left_out : {V : Type 0} (c : Bool) (y : V) → None ≡ cond c (Some y) None → c ≡ false
-left_out true y h = absurd (let z : ◌≡◌ {A = ℕ} 0 1 = cc in omega arith)
-left_out false y h = refl

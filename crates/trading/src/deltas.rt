@@ -21,7 +21,8 @@ pub(crate) fn delta_at(tables: &Tables, series: u64) -> i32
     tables.series.read(series).map_or(0, |terms| terms.value)
 }
 
-// What a position adds to the delta of the account: nothing where it is another's.
+// What a position adds to the delta of the account: nothing where it is another's. A type for the bound would be made here
+// and taken apart in the sum.
 fn weighs(tables: &Tables, account: AccountNumber, key: u64, position: Position) -> i128
     ensures value { result ≡ weighs_on (model_of tables.now) account.number key position }
     ensures bound { unsigned_abs result ≤ 2 ^ 66 }

@@ -2,6 +2,7 @@ ghost use Rattle.std.specs.Prelude.{◌≡◌, length};
 ghost use Rattle.fixings.specs.Calls.{taken, Begins, Samples, Closes};
 
 use crate::closed::ClosedFixing;
+use crate::level::Level;
 use crate::mean::final_price;
 use crate::open::{MOST_SAMPLES, OpenFixing};
 use arrayvec::ArrayVec;
@@ -31,7 +32,7 @@ impl OpenFixing {
         if self.samples.len() == self.expected {
             return Err(Refusal::plain(Reason::WrongState));
         }
-        self.samples.push(price.hundredths());
+        self.samples.push(Level::from(price));
         Ok(())
     }
 
@@ -41,7 +42,7 @@ impl OpenFixing {
     {
         // `map_err` would have to move the fixing into its closure.
         let value = match Price::try_from(value) {
-            Ok(price) => price.hundredths(),
+            Ok(price) => Level::from(price),
             Err(refusal) => return Err((refusal, self)),
         };
         if self.samples.len() < self.expected {

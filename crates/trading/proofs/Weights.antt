@@ -39,7 +39,6 @@ own_weight : (b : Book) (x s a : ℕ) (p : Position) → a < 65536 → weighs_on
 own_weight b x s a p l =
     ap₂ (λ (i j : ℕ). cond (eqb x i) (weight (units p) (delta_at b j)) (pos 0)) (account_of_key_lem s a l) (series_of_key_lem s a l)
 
-
 if_zero : (c : Bool) (x : ℤ) → x ≡ pos 0 → cond c x (pos 0) ≡ pos 0
 if_zero true x e = e
 if_zero false x e = refl

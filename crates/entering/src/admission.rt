@@ -16,6 +16,7 @@ pub fn admit(tables: &mut Tables, account: u16, kind: u8) -> Result<(), Refusal>
 {
     tables.usable()?;
     let kind = judged(tables, account, kind)?;
+    // `judged` found place for the row.
     let _ = tables
         .accounts
         .put(u64::from(account), Account { kind, cash: 0 });

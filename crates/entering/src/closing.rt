@@ -22,6 +22,7 @@ pub fn close(
     ensures { Follows (bare (close (numbered numbers) account count)) tables.old tables.new result }
 {
     let left = closed(&tables.in_use()?, numbers, account, count)?;
+    // The position has a row: there was something to close.
     let _ = place(&mut tables.positions, left.key, left.value);
     Ok(())
 }

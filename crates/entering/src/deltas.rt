@@ -23,6 +23,7 @@ pub fn delta(tables: &mut Tables, numbers: SeriesNumbers, value: i32) -> Result<
         value,
         state: state.value,
     };
+    // The option has a row.
     let _ = tables.series.put(state.key, terms);
     Ok(())
 }

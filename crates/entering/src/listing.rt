@@ -43,6 +43,7 @@ pub fn list(tables: &mut Tables, numbers: SeriesNumbers, first: i32) -> Result<(
         value: first,
         state: State::Trading,
     };
+    // `listed` found place for the row.
     let _ = tables.series.put(series_key(series), terms);
     Ok(())
 }

@@ -30,6 +30,7 @@ pub fn enter(
         value: mark.value,
         state: State::Fixed(price),
     };
+    // The month's future has a row.
     let _ = tables.series.put(mark.key, terms);
     Ok(())
 }

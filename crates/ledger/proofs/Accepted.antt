@@ -14,7 +14,7 @@ use Rattle.ledger.specs.Judge.{Verdict, need, unless, also, within, fits, holder
 use Rattle.ledger.proofs.KeyLaws.{InRange, in_range_lem, size_full, key_future}
 
 -- ---- verdicts
-need_so : (c : Bool) (e : Refusal) (v : Verdict) → need c e v ≡ Ok tt → (c ≡ true) × (v ≡ Ok tt)
+pub need_so : (c : Bool) (e : Refusal) (v : Verdict) → need c e v ≡ Ok tt → (c ≡ true) × (v ≡ Ok tt)
 unfolding need
 need_so c e v h = grind arith
 

@@ -10,7 +10,6 @@ use Rattle.positions.specs.declared.position.Position.{Position}
 use Rattle.positions.specs.Positions.{flat, units}
 use Rattle.positions.specs.Money.{amount, payoff}
 use Rattle.positions.specs.Keys.{future_key, is_future_key, line_key, series_of_key}
-use Rattle.ledger.specs.declared.rows.State.{State}
 use Rattle.ledger.specs.declared.rows.State.TheVariants.{Done}
 use Rattle.ledger.specs.declared.rows.Terms.{Terms}
 use Rattle.ledger.specs.Calls.{Series, Pricing, mark, exercise, settle}
@@ -26,6 +25,7 @@ use Rattle.ledger.proofs.PositionLaws.{bought_fees_none, units_in, total-outside
 use Rattle.ledger.proofs.CashLaws.{cash_in, brings, kind_pay_each, total-pay_each, rising_pay_each, cash_pay_each, brings_below, fees_bought}
 use Rattle.ledger.proofs.KeyLaws.{future_is}
 use Rattle.ledger.proofs.Worth.{worth_then, worth_mark}
+use Rattle.ledger.proofs.Plain.{trading_open}
 use Rattle.ledger.proofs.Kept.{Good, Kept, on, at_terms, done_back, done_other, final_back, idle_cash, idle_fees}
 
 -- ---- sums over the positions in a series
@@ -55,9 +55,6 @@ module _ (b : Book) (j : Journal) (κ : Kept b j) (s : ℕ) (v : ℤ) where
   total_moved =
       total-pay_each moved (in_series s b.positions) b.accounts
       ∙ omega (arith, ints, paid_level (family_in b) (v -ℤ value_at b s) s b.positions (κ.level s))
-
-trading_open : (q : State) → is_trading q ≡ true → is_done q ≡ false
-trading_open q e = grind arith
 
 pub mark_kept : (b : Book) (j : Journal) (m x : ℕ) (p : Pricing) → is_trading (state_at b (future_key m)) ≡ true → Kept b j → Kept (post b (mark m x) p) (on (mark m x) p j)
 unfolding post

@@ -148,7 +148,7 @@ delta_kept b j x d p e κ =
       absent = grind (arith, present_change);
     }
 
-trading_open : (q : State) → is_trading q ≡ true → is_done q ≡ false
+pub trading_open : (q : State) → is_trading q ≡ true → is_done q ≡ false
 trading_open q e = grind arith
 
 pub enter_kept : (b : Book) (j : Journal) (m f x : ℕ) (p : Pricing) → is_trading (state_at b (future_key m)) ≡ true → Kept b j → Kept (post b (enter m f x) p) (on (enter m f x) p j)

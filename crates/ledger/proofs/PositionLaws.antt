@@ -85,7 +85,7 @@ at_line f s c n a ps h g o = grind (arith, at_revise)
 abbrev pub units_in : ℕ → ℕ → Position → ℤ
 units_in s k p = cond (eqb (series_of_key k) s) (units p) (pos 0)
 
-if_units : (c : Bool) (x y d : ℤ) → x ≡ y +ℤ d → cond c x (pos 0) -ℤ cond c y (pos 0) ≡ cond c d (pos 0)
+pub if_units : (c : Bool) (x y d : ℤ) → x ≡ y +ℤ d → cond c x (pos 0) -ℤ cond c y (pos 0) ≡ cond c d (pos 0)
 if_units c x y d e = grind arith
 
 flat_units : (c : Bool) → cond c (units flat) (pos 0) ≡ pos 0

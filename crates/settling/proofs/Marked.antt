@@ -20,7 +20,8 @@ use Rattle.ledger.proofs.CashLaws.{cash_pay_each}
 use Rattle.tables.specs.declared.tables.Tables.{Tables}
 use Rattle.tables.specs.Model.{model_of, spaces_of, Follows}
 use Rattle.tables.proofs.Following.{refused, accepted as posted, judge_is}
-use Rattle.settling.specs.Payments.{affords, tested, Owned}
+use Rattle.ledger.specs.Sound.{Owned}
+use Rattle.settling.specs.Payments.{affords, tested}
 use Rattle.settling.specs.Marks.{marking, moved}
 use Rattle.settling.proofs.Neighbours.{Line, lines}
 use Rattle.settling.proofs.Paying.{affords_there, tested_is}

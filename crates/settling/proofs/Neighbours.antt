@@ -14,7 +14,7 @@ use Rattle.ledger.specs.Rows.{at, present, in_series, Each}
 use Rattle.ledger.specs.Book.{Book, position_at}
 use Rattle.ledger.proofs.RowLaws.{first_key, in_series_lem, each_more, each_kept}
 use Rattle.ledger.proofs.Presence.{rows_found}
-use Rattle.settling.specs.Payments.{Owned}
+use Rattle.ledger.specs.Sound.{Owned}
 
 -- ---- a part of the keys beside the same part of the contents
 between_map : {X Y : Type 0} (f : X → Y) (i j : ℕ) (xs : List X) → between i j (map f xs) ≡ map f (between i j xs)

@@ -8,8 +8,6 @@ use Rattle.positions.specs.Positions.{units}
 use Rattle.positions.specs.Money.{balance_in}
 use Rattle.ledger.specs.declared.rows.Account.{Account}
 use Rattle.positions.specs.Keys.{account_of_key}
-use Rattle.ledger.specs.Rows.{present, Each}
-use Rattle.ledger.specs.Book.{Book}
 use Rattle.ledger.specs.Judge.{Verdict, need}
 use Rattle.ledger.specs.Post.{pay}
 use Rattle.settling.specs.declared.gain.Gain.{Gain}
@@ -40,7 +38,3 @@ Ready f (r ∷ rs) accounts =
 
 abbrev pub pay_all : {X : Type 0} → (X → ℤ) → Rows X → Rows Account → Rows Account
 pay_all f rs accounts = fold (λ cs r. pay (account_of_key r.0) (f r.1) cs) accounts rs
-
--- each row of a position has its account
-abbrev pub Owned : Book → Type 0
-Owned b = Each (λ k _. present b.accounts (account_of_key k) ≡ true) b.positions

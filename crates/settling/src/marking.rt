@@ -6,7 +6,8 @@ ghost use Rattle.ledger.specs.Post.{valued};
 ghost use Rattle.ledger.specs.Judge.{accepted};
 ghost use Rattle.ledger.specs.Sound.{Sound};
 ghost use Rattle.tables.specs.Model.{model_of, Follows};
-ghost use Rattle.settling.specs.Payments.{gains, tested, Owned};
+ghost use Rattle.ledger.specs.Sound.{Owned};
+ghost use Rattle.settling.specs.Payments.{gains, tested};
 ghost use Rattle.settling.specs.Marks.{marking, moved};
 
 use crate::gain::Gain;

@@ -3,11 +3,6 @@ use Rattle.std.proofs.Common.{◌≡◌, ℕ, Bool, true, false, Ok, Err, refl, 
 use Rattle.terms.specs.declared.refusal.Refusal.{Refusal}
 use Rattle.ledger.specs.Judge.{Verdict, need, also}
 
-pub need_so : (c : Bool) (e : Refusal) (v : Verdict) → need c e v ≡ Ok tt → (c ≡ true) × (v ≡ Ok tt)
-unfolding need
-need_so true e v h = (refl, h)
-need_so false e v h = absurd (let z : ◌≡◌ {A = ℕ} 0 1 = cc in omega arith)
-
 -- one test alone
 pub alone : (c : Bool) (e r : Refusal) → need c e (Ok tt) ≡ Err r → (c ≡ false) × (r ≡ e)
 unfolding need

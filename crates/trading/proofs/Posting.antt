@@ -17,7 +17,7 @@ use Rattle.ledger.specs.Runs.{judge, standing_after}
 use Rattle.trading.specs.Parts.{allowed}
 use Rattle.trading.specs.Found.{OutcomeOf, cash_in, fee_on, posted}
 use Rattle.trading.specs.declared.found.Outcome.{Outcome}
-use Rattle.trading.proofs.Chains.{need_so}
+use Rattle.ledger.proofs.Accepted.{need_so}
 use Rattle.trading.proofs.Lines.{keys_apart}
 use Rattle.trading.proofs.Balances.{both_paid, lines_are}
 use Rattle.trading.proofs.Tested.{Known, exchange_is}

@@ -20,7 +20,7 @@ use Rattle.trading.specs.Parts.{known}
 use Rattle.trading.specs.Found.{stands_before, stands_after, bought, sold, cash_in, fee_on, MoveOf, LegBy, LegOf}
 use Rattle.trading.specs.declared.found.Move.{Move}
 use Rattle.trading.specs.declared.found.Leg.{Leg}
-use Rattle.trading.proofs.Chains.{need_so}
+use Rattle.ledger.proofs.Accepted.{need_so}
 use Rattle.trading.proofs.Lines.{stands_counted}
 use Rattle.trading.proofs.Weights.{buyer_delta, seller_delta, neg_weight}
 use Rattle.trading.proofs.Reading.{took}

@@ -16,7 +16,7 @@ use Rattle.ledger.specs.Book.{Book, kind_at, delta_at, weight, delta_of}
 use Rattle.ledger.specs.Post.{post, traded}
 use Rattle.ledger.proofs.Ring.{zero_weight, +-weight}
 use Rattle.ledger.proofs.RowLaws.{total_kept, total-revise}
-use Rattle.ledger.proofs.PositionLaws.{account_of_key_lem, series_of_key_lem, dealt_units, lots_neg}
+use Rattle.ledger.proofs.PositionLaws.{account_of_key_lem, series_of_key_lem, dealt_units, if_units, lots_neg}
 use Rattle.trading.specs.Found.{weighs_on}
 
 pub delta_is : (b : Book) (a : ℕ) → delta_of b a ≡ total_ℤ (weighs_on b a) b.positions
@@ -39,10 +39,6 @@ own_weight : (b : Book) (x s a : ℕ) (p : Position) → a < 65536 → weighs_on
 own_weight b x s a p l =
     ap₂ (λ (i j : ℕ). cond (eqb x i) (weight (units p) (delta_at b j)) (pos 0)) (account_of_key_lem s a l) (series_of_key_lem s a l)
 
-if_weight : (c : Bool) (x y d : ℤ) → x ≡ y +ℤ d → cond c x (pos 0) -ℤ cond c y (pos 0) ≡ cond c d (pos 0)
-if_weight true x y d e = omega (arith, ints)
-if_weight false x y d e = refl
-
 if_zero : (c : Bool) (x : ℤ) → x ≡ pos 0 → cond c x (pos 0) ≡ pos 0
 if_zero true x e = e
 if_zero false x e = refl
@@ -56,7 +52,7 @@ line_weight b x s a f d ps l e =
     total-revise f k ps (weighs_on b x) (own_weight b x s a flat l ∙ if_zero (eqb x a) (weight (units flat) δ) (zero_weight δ))
     ∙ ap (λ (y : ℤ). total_ℤ (weighs_on b x) ps +ℤ y)
     (ap₂ (λ (y z : ℤ). y -ℤ z) (own_weight b x s a (f p) l) (own_weight b x s a p l)
-    ∙ if_weight (eqb x a) (weight (units (f p)) δ) (weight (units p) δ) (weight d δ) (ap (λ (n : ℤ). weight n δ) (e p) ∙ +-weight (units p) d δ))
+    ∙ if_units (eqb x a) (weight (units (f p)) δ) (weight (units p) δ) (weight d δ) (ap (λ (n : ℤ). weight n δ) (e p) ∙ +-weight (units p) d δ))
 
 -- ---- an account's delta after a trade
 module _ (b : Book) (t : Trade) (p : Pricing) (lb : t.buyer < 65536) (ls : t.seller < 65536) (apart : t.buyer ≡ t.seller → ⊥) where

@@ -18,6 +18,7 @@ fn post_accounts(accounts: &mut Register<Account>, buyer: &Leg, seller: &Leg)
     ensures rows { rows_of accounts.new ≡ put seller.now.side.account seller.now.account (put buyer.now.side.account buyer.now.account (rows_of accounts.old)) }
     ensures room { room_of accounts.new ≡ room_of accounts.old }
 {
+    // Both accounts have rows.
     let _ = accounts.put(u64::from(buyer.side.account), buyer.account);
     let _ = accounts.put(u64::from(seller.side.account), seller.account);
 }
@@ -29,6 +30,7 @@ fn post_positions(positions: &mut Register<Position>, buyer: &Leg, seller: &Leg)
     ensures rows { rows_of positions.new ≡ placed seller.now.key seller.now.position (placed buyer.now.key buyer.now.position (rows_of positions.old)) }
     ensures room { room_of positions.new ≡ room_of positions.old }
 {
+    // There is place for both: a flat seller's row goes before the buyer's comes.
     if seller.position.is_flat() {
         positions.take(seller.key);
         let _ = place(positions, buyer.key, buyer.position);

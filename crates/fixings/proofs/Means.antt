@@ -1,5 +1,5 @@
 -- The mean as a quotient, and what it means.
-use Rattle.std.proofs.Common.{◌≡◌, ℕ, ◌+◌, ◌*◌, ◌/◌, ◌<◌, ◌≤◌, List, [], ◌∷◌, ◌++◌, length, sum, ap, div-add-mod', le-div_iff_mul-le, div-mul-le_self, arith}
+use Rattle.std.proofs.Common.{◌≡◌, ℕ, ◌+◌, ◌*◌, ◌/◌, ◌<◌, ◌≤◌, List, [], ◌∷◌, ◌++◌, length, sum, ap, mul_assoc, div-lt_iff_lt-mul, div-add-mod', le-div_iff_mul-le, div-mul-le_self, le_of_mul-le-mul_right, arith}
 use native.Mathlib.Nat.{mul-mod_left, lt-div-mul-add}
 use Rattle.std.proofs.lemmas.List.{length_push}
 use Rattle.std.proofs.lemmas.List.Sums.{sum_by-cons}
@@ -8,6 +8,23 @@ use Rattle.terms.specs.declared.family.Family.TheVariants.{HangSeng, ChinaEnterp
 use Rattle.terms.specs.Extremes.{Greatest}
 use Rattle.fixings.specs.declared.level.Level.{Level}
 use Rattle.fixings.specs.Finals.{in_hundredths, final_price, lowered, rounded, WholePoints, Nearest, IsFinal}
+
+-- whole points stay below the prices' bound
+pub lowered_most : (t n : ℕ) → 0 < n → t ≤ 10000000 * n → t / (100 * n) * 100 ≤ 10000000
+lowered_most t n some h =
+    let q = t / (100 * n) in
+    let l = div-mul-le_self t (100 * n) in
+    let e = mul_assoc q 100 n in
+    let k : q * 100 * n ≤ 10000000 * n = omega (arith, l, e) in
+    le_of_mul-le-mul_right k some
+
+-- and so do rounded hundredths
+pub rounded_most : (t n : ℕ) → 0 < n → t ≤ 10000000 * n → (2 * t + n) / (2 * n) ≤ 10000000
+rounded_most t n some h =
+    let l : 2 * t + n < 10000001 * (2 * n) = omega arith in
+    let d : 0 < 2 * n = omega arith in
+    let k : (2 * t + n) / (2 * n) < 10000001 = (div-lt_iff_lt-mul d).1 l in
+    omega arith
 
 -- a sum of levels, of which none passes the highest one
 pub sum_most : (ls : List Level) → sum (in_hundredths ls) ≤ 10000000 * length ls

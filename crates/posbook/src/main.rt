@@ -2,6 +2,7 @@
 #![tactic(auto)]
 
 mod command;
+mod lines;
 mod session;
 mod unreadable;
 mod words;

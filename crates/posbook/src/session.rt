@@ -1,4 +1,5 @@
 use crate::command::{Command, read_command};
+use crate::lines::Lines;
 use crate::unreadable::Unreadable;
 use crate::words::Words;
 use script::Points;
@@ -22,7 +23,7 @@ pub(crate) fn run<W: Write>(heap: Global, script: &[u8], out: &mut W) -> io::Res
         out,
         totals: Totals::default(),
     };
-    for (number, line) in (1..).zip(script.split(|byte| *byte == b'\n')) {
+    for (number, line) in (1..).zip(Lines::new(script)) {
         if !is_comment(line) {
             session.answer(number, line)?;
         }

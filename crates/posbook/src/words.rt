@@ -3,7 +3,7 @@ ghost use Rattle.std.specs.Iterator.{at_most};
 ghost use Rattle.std.specs.Option.{option_map};
 ghost use Rattle.posbook.specs.Lines.{Next};
 
-use script::word_at;
+use script::{Span, word_at};
 
 /// The words of a line, one after the other.
 #[derive(Clone, Copy)]
@@ -30,12 +30,12 @@ impl<'a> Iterator for Words<'a> {
         × Next old.line.now old.at (option_map (λ x. x.now) word) new.at };
 
     fn next(&mut self) -> Option<&'a [u8]> {
-        let word = word_at(self.line, self.at);
-        self.at = word.end;
-        if word.is_empty() {
+        let Span { start, end } = word_at(self.line, self.at);
+        self.at = end;
+        if start == end {
             None
         } else {
-            Some(&self.line[word])
+            Some(&self.line[start..end])
         }
     }
 }

@@ -1,5 +1,5 @@
 -- Positions by the sign of their counts.
-use Rattle.std.proofs.Common.{◌≡◌, ℕ, zero, suc, ◌/◌, ◌≤◌, min, ℤ, pos, negsuc, ◌+ℤ◌, ◌-ℤ◌, ◌*ℤ◌, neg_ℤ, nat_abs, refl, arith}
+use Rattle.std.proofs.Common.{◌≡◌, ℕ, zero, suc, ◌/◌, ◌≤◌, min, ◌⊎◌, ℤ, pos, negsuc, ◌+ℤ◌, ◌-ℤ◌, ◌*ℤ◌, neg_ℤ, nat_abs, ◌≤ℤ◌, ◌<ℤ◌, refl, inl, inr, arith}
 use Rattle.std.proofs.lemmas.Int.{ints}
 use Rattle.positions.specs.Positions.{position, opposed, signed_like, closed}
 
@@ -22,3 +22,14 @@ taken_off k (negsuc f) (pos m) h =
 
 pub closed_as : (k : ℕ) (f m a b : ℤ) → a ≡ f -ℤ signed_like f k → b ≡ m +ℤ pos 5 *ℤ signed_like f k → position a b ≡ closed k (position f m)
 closed_as k f m a b p q = λ i. position (p i) (q i)
+
+-- fulls sold are at least as many as what can be taken off against minis bought
+pub short_fulls : (k : ℕ) (f m : ℤ) → f <ℤ pos 0 → k ≤ nat_abs (opposed f m) → (f +ℤ pos k) ≤ℤ pos 0
+short_fulls k (pos f) m n h = absurd (omega (arith, ints))
+short_fulls k (negsuc f) (negsuc m) n h = omega (arith, ints)
+short_fulls k (negsuc f) (pos m) n h = let e = abs_neg (min (suc f) (m / 5)) in omega (arith, ints)
+
+pub short_minis : (k : ℕ) (f m : ℤ) → f <ℤ pos 0 → k ≤ nat_abs (opposed f m) → (k ≡ 0) ⊎ ((pos 5 *ℤ pos k) ≤ℤ m)
+short_minis k (pos f) m n h = absurd (omega (arith, ints))
+short_minis k (negsuc f) (negsuc m) n h = inl (omega arith)
+short_minis k (negsuc f) (pos m) n h = let e = abs_neg (min (suc f) (m / 5)) in inr (omega (arith, ints))

@@ -1,13 +1,26 @@
 -- A stretch taken out of a list.
 use Rattle.std.proofs.Common.{◌≡◌, ℕ, zero, suc, ◌+◌, ◌-◌, ◌≤◌, List, [], ◌∷◌, ◌++◌, length, take, drop, sym, refl, ap, ◌∙◌, ap₂, arith}
+use borrow.Rule.Slice.PartMut.{put_mid, post_of}
 use Rattle.std.specs.List.{between, zip}
-use Rattle.std.proofs.lemmas.List.{length-take-le}
+use Rattle.std.proofs.lemmas.List.{append_assoc, drop-drop, length-take-le, take_at}
+use Rattle.std.proofs.lemmas.Slice.{between_to_end}
 use Rattle.std.proofs.lemmas.List.Edits.{split_between, length-between}
 use Rattle.std.proofs.lemmas.Grind.{elements}
 use Rattle.registers.specs.Keys.{Ascending}
 
 pub cut_length : {X : Type 0} (xs : List X) (a b : ℕ) → a ≤ b → b ≤ length xs → length (take a xs ++ drop b xs) ≡ length xs - (b - a)
 cut_length xs a b h k = grind (arith, elements)
+
+pub cut_is : {X : Type 0} (xs ws : List X) (a b n : ℕ) → a ≤ b → b ≤ length xs → n ≡ length xs → ws ≡ drop (b - a) (between a n xs) ++ take (b - a) (between a n xs)
+    → take (n - (b - a)) (put_mid a (n - a) xs ws) ≡ take a xs ++ drop b xs
+cut_is xs ws a b n h k e f =
+    let rest : between a n xs ≡ drop a xs = between_to_end xs a n (omega arith) in
+    let gone = take (b - a) (drop a xs) in
+    let post = post_of a (n - a) xs in
+    let w : ws ≡ drop b xs ++ gone = f ∙ ap (λ l. drop (b - a) l ++ take (b - a) l) rest ∙ ap (λ l. l ++ gone) (drop-drop (b - a) a xs ∙ ap (λ (m : ℕ). drop m xs) (omega arith)) in
+    let all : take a xs ++ (ws ++ post) ≡ (take a xs ++ drop b xs) ++ (gone ++ post) =
+    ap (λ l. take a xs ++ (l ++ post)) w ∙ ap (λ l. take a xs ++ l) (append_assoc (drop b xs) gone post) ∙ sym (append_assoc (take a xs) (drop b xs) (gone ++ post)) in
+    ap (take (n - (b - a))) all ∙ take_at (take a xs ++ drop b xs) (gone ++ post) (n - (b - a)) (cut_length xs a b h k ∙ omega arith)
 
 pub ascending_cut : (ks : List ℕ) (a b : ℕ) → Ascending ks → a ≤ b → b ≤ length ks → Ascending (take a ks ++ drop b ks)
 ascending_cut ks a b asc h k i j l m =

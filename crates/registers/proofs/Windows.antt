@@ -12,7 +12,7 @@ pub record Window (ks : List ℕ) (key base size : ℕ) : Type 0 where
 rises : (ks : List ℕ) → Ascending ks → (i j : ℕ) → i ≤ j → j < length ks → get_or ks i 0 ≤ get_or ks j 0
 rises ks a i j h l = grind (arith, a i j)
 
-module _ (ks : List ℕ) (key base size q : ℕ) (asc : Ascending ks) (w : Window ks key base size) (p : 0 < q) (h : 4 * q ≤ size) where
+module _ (ks : List ℕ) (key base size q : ℕ) (asc : Ascending ks) (w : Window ks key base size) (p : 0 < q) (h : 4 * q ≤ size + 1) where
   pub quartered : (x y z : ℕ)
       → x ≡ cond (ltb (get_or ks (base + q - 1) 0) key) 1 0
       → y ≡ cond (ltb (get_or ks (base + q - 1 + q) 0) key) 1 0

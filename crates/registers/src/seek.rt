@@ -1,3 +1,4 @@
+ghost use Rattle.std.specs.Prelude.{◌+◌, ◌*◌, ◌^◌, ◌<◌, ◌≤◌};
 ghost use Rattle.registers.specs.Keys.{Ascending, Split};
 
 // How many of the keys are less than the key, by a search of which no branch depends on a key that is read.
@@ -7,10 +8,13 @@ pub(crate) fn count_below(keys: &[u64], key: u64) -> usize
     ensures { Split keys.now key result }
 {
     let less = |place: usize| usize::from(keys[place] < key);
+    let mut size = window(keys.len());
     let mut base = 0;
-    let mut size = keys.len();
-    while size > 3 {
-        let quarter = size / 4;
+    if size < keys.len() {
+        base = less(size - 1) * (keys.len() - size);
+    }
+    while size > 2 {
+        let quarter = (size + 1) / 4;
         let last = base + quarter - 1;
         base += quarter * (less(last) + less(last + quarter) + less(last + 2 * quarter));
         size -= 3 * quarter;
@@ -19,4 +23,13 @@ pub(crate) fn count_below(keys: &[u64], key: u64) -> usize
         base += less(base);
     }
     base
+}
+
+// One less than a power of two, so that quarters leave no rest: so many in front and so many at the end are all of `size`.
+fn window(size: usize) -> usize
+    requires { size < 2 ^ 63 }
+    ensures within { result ≤ size }
+    ensures all { size ≤ 2 * result }
+{
+    (1usize << (size + 1).ilog2()) - 1
 }

@@ -3,7 +3,7 @@ ghost use Rattle.registers.specs.Rows.{lookup, put};
 ghost use Rattle.registers.specs.Held.{rows_of, room_of};
 ghost use Rattle.registers.specs.Stretches.{stretch, rewritten};
 
-use crate::{Register, book_accepts};
+use crate::{Register, Span, book_accepts};
 use std::test::Fail;
 
 // Writes a content through the loan of one row.
@@ -21,8 +21,8 @@ fn overwrite(register: &mut Register<u32>, a: u64, b: u64, content: u32)
     ensures rows { rows_of register.new ≡ rewritten a b (replicate (length (stretch a b (rows_of register.old))) content) (rows_of register.old) }
     ensures room { room_of register.new ≡ room_of register.old }
 {
-    let places = register.stretch(a, b);
-    register.contents_mut()[places].fill(content);
+    let Span { from, to } = register.stretch(a, b);
+    register.contents_mut()[from..to].fill(content);
 }
 
 #[test]

@@ -1,6 +1,6 @@
 -- Where the words and the lines of a text stand.
 use Rattle.std.specs.Prelude.{◌≡◌, ℕ, ◌<◌, ◌≤◌, min, Bool, true, false, ◌||◌, List, length, ◌==◌, ◌≢◌, slice_index}
-use Rattle.std.specs.declared.ops.Range.{Range}
+use Rattle.script.specs.declared.words.Span.{Span}
 
 -- A blank separates words: a space (32), a tab (9) or a carriage return (13).
 abbrev pub blank : ℕ → Bool
@@ -8,7 +8,7 @@ blank c = c == 32 || (c == 9 || c == 13)
 
 -- The next word of a line at or after a place: only blanks are passed over, the word holds no blank,
 -- and it goes on to a blank or to the line's end. Without one, and from past the end, both places are the line's length.
-pub record WordAt (line : List ℕ) (from : ℕ) (s : Range ℕ) : Type 0 where
+pub record WordAt (line : List ℕ) (from : ℕ) (s : Span) : Type 0 where
   pub after : min from (length line) ≤ s.start
   pub ordered : s.start ≤ s.end
   pub within : s.end ≤ length line

@@ -10,4 +10,4 @@ mod words;
 
 pub use numbers::{Misread, hundredths, number};
 pub use points::{Points, written};
-pub use words::{line_end, word_at};
+pub use words::{Span, line_end, word_at};

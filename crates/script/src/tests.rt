@@ -1,4 +1,4 @@
-use crate::{Misread, Points, hundredths, line_end, number, word_at};
+use crate::{Misread, Points, Span, hundredths, line_end, number, word_at};
 use std::process::Abort;
 use std::test::Fail;
 
@@ -11,7 +11,7 @@ fn points(rt: &impl Abort, text: &[u8], answer: Result<u32, Misread>) {
 }
 
 fn word(rt: &impl Abort, line: &[u8], from: usize, start: usize, end: usize) {
-    assert_eq!(rt; word_at(line, from), start..end);
+    assert_eq!(rt; word_at(line, from), Span { start, end });
 }
 
 #[test]

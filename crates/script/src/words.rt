@@ -2,8 +2,6 @@ ghost use Rattle.std.specs.Prelude.{◌≡◌, ℕ, ◌<◌, ◌≤◌, true, fa
 ghost use Rattle.script.specs.Only.{Only};
 ghost use Rattle.script.specs.Words.{blank, WordAt, LineEnd};
 
-use std::ops::Range;
-
 const SPACE: u8 = b' ';
 
 const TAB: u8 = b'\t';
@@ -12,14 +10,22 @@ const RETURN: u8 = b'\r';
 
 const NEWLINE: u8 = b'\n';
 
-/// Where the next word of the line at or after `from` stands. Without one the range is empty, at the line's length.
-pub fn word_at(line: &[u8], from: usize) -> Range<usize>
+// A type of its own, since the library's `Range` is not `Copy`.
+/// Where a word stands in its line: from `start` to before `end`.
+#[derive(Clone, Copy, PartialEq, Eq, Debug)]
+pub struct Span {
+    pub start: usize,
+    pub end: usize,
+}
+
+/// The next word of the line at or after `from`. Where there is none, `start` and `end` are the line's length.
+pub fn word_at(line: &[u8], from: usize) -> Span
     ensures { Only (WordAt line.now from) result }
 {
     let from = from.min(line.len());
     let start = from + first_place(&line[from..], |c| !is_blank(c));
     let end = start + first_place(&line[start..], is_blank);
-    start..end
+    Span { start, end }
 }
 
 /// The place of the first newline at or after `from`, or the text's length where there is none.

@@ -14,8 +14,7 @@ use crate::gain::Gain;
 use crate::lines::{post_gains, test_gains};
 use ledger::Terms;
 use positions::{KEYS_OF_SERIES, future_key};
-use registers::Register;
-use std::ops::Range;
+use registers::{Register, Span};
 use tables::Tables;
 use terms::{Month, Price, Reason, Refusal};
 
@@ -40,11 +39,11 @@ fn move_mark(tables: &mut Tables, future: u64, gain: Gain, mark: Price) -> Resul
     ensures answer { result ≡ tested (gains gain) (in_series future (rows_of tables.old.positions)) (rows_of tables.old.accounts) }
     ensures book { model_of tables.new ≡ (if accepted result then moved (gains gain) future mark.hundredths (model_of tables.old) else model_of tables.old) }
 {
-    let Range { start, end } = tables
+    let Span { from, to } = tables
         .positions
         .stretch(future * KEYS_OF_SERIES, (future + 1) * KEYS_OF_SERIES);
-    let keys = &tables.positions.keys()[start..end];
-    let positions = &tables.positions.contents()[start..end];
+    let keys = &tables.positions.keys()[from..to];
+    let positions = &tables.positions.contents()[from..to];
     test_gains(&tables.accounts, keys, positions, gain)?;
     post_gains(&mut tables.accounts, keys, positions, gain);
     set_value(&mut tables.series, future, mark.hundredths() as i32);

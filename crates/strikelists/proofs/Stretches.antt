@@ -1,5 +1,5 @@
 -- The strikes of a stretch as a list, and how it grows by a run of equal steps.
-use Rattle.std.proofs.Common.{◌≡◌, ℕ, zero, suc, ◌+◌, ◌-◌, ◌*◌, ◌<◌, ◌≤◌, Bool, true, false, List, [], ◌∷◌, ◌++◌, length, filter, refl, ap, subst, ⊎_elim, add-zero, suc-mul, suc-add, zero-add, zero-mul, arith}
+use Rattle.std.proofs.Common.{◌≡◌, ℕ, zero, suc, ◌+◌, ◌-◌, ◌*◌, ◌<◌, ◌≤◌, Bool, true, false, List, [], ◌∷◌, ◌++◌, length, filter, refl, ap, ◌∙◌, subst, ⊎_elim, add-zero, suc-mul, suc-add, zero-add, zero-mul, arith}
 use Rattle.std.specs.List.{range_with_len}
 use Rattle.std.proofs.lemmas.List.Elements.{filter-append}
 use Rattle.std.proofs.lemmas.List.Elements.{All-get_or, All-filter, All-from_get_or, filter_passes}
@@ -62,6 +62,11 @@ kept_last : (p : ℕ → Bool) (n a : ℕ) → ((x : ℕ) → a ≤ x → x < a 
     → filter p (range_with_len a (suc n)) ≡ (a + n) ∷ []
 kept_last p zero a none y = grind (arith, common_steps)
 kept_last p (suc n) a none y = grind (arith, common_steps, none a, kept_last p n (a + 1))
+
+pub one : (bands : List StepBand) (k : ℕ) → Listed bands k → stretch bands k k ≡ k ∷ []
+one bands k l =
+    let e : suc k - k ≡ 1 = omega arith in
+    ap (λ n. filter (listed bands) (range_with_len k n)) e ∙ cond-true (listed bands k) (k ∷ []) [] (listed_true bands k l)
 
 -- the strikes of a span are its lower strike and those above it
 pub lowest : (span : Span) → strikes_of span ≡ span.low ∷ above span

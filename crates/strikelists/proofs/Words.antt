@@ -1,6 +1,7 @@
 -- The words leave no choice.
-use Rattle.std.proofs.Common.{◌≡◌, ℕ, zero, suc, ◌<◌, ◌⊎◌, List, [], ◌∷◌, length, get_or, refl, inl, inr, arith}
+use Rattle.std.proofs.Common.{◌≡◌, ℕ, zero, suc, ◌<◌, ◌≤◌, ◌⊎◌, List, [], ◌∷◌, length, get_or, refl, inl, inr, ⊎_elim, arith}
 use Rattle.terms.specs.declared.steps.StepBand.{StepBand}
+use Rattle.terms.specs.Steps.{Listed}
 use Rattle.strikelists.specs.Strikes.{Nearest, LowEnd, HighEnd, Holds, Between, StrikeList}
 use Rattle.strikelists.specs.Lists.{OneNearest, OneList}
 use Rattle.strikelists.specs.Runs.{stretch}
@@ -59,6 +60,17 @@ one_list bands level xs ys p q =
     let l = one_low bands q.middle p.low q.low (rw a at p.low_end) q.low_end in
     let h = one_high bands q.middle p.high q.high (rw a at p.high_end) q.high_end in
     one_between bands q.low q.high xs ys (rw (l, h) at p.all) q.all
+
+-- the ends stand in their order
+pub ends_ordered : (bands : List StepBand) (a low high : ℕ) → Listed bands a → LowEnd bands a low → HighEnd bands a high → low ≤ high
+ends_ordered bands a low high l p q =
+    ⊎_elim
+    (λ g. omega (arith, g.0.1, q.0.1))
+    (λ g. omega (arith, g.1.1 a l, q.0.1))
+    p
+
+pub low_listed : (bands : List StepBand) (a low : ℕ) → LowEnd bands a low → Listed bands low
+low_listed bands a low p = ⊎_elim (λ g. g.0.0) (λ g. g.1.0) p
 
 -- the stretch between the ends is the list of the words
 pub stretch_list : (bands : List StepBand) (level a low high : ℕ) → Nearest bands level a → LowEnd bands a low → HighEnd bands a high

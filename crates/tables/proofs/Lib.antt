@@ -1,3 +1,4 @@
 pub mod Following
 pub mod Doors
 pub mod Products
+pub mod Ranges

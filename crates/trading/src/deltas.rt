@@ -1,8 +1,9 @@
 // An account's delta.
 ghost use Rattle.std.specs.Prelude.{◌≡◌, ◌^◌, ◌≤◌, unsigned_abs};
-ghost use Rattle.ledger.specs.Book.{delta_at, delta_of};
+ghost use Rattle.ledger.specs.Book.{delta_at, delta_of, weight};
+ghost use Rattle.positions.specs.Keys.{series_of_key};
+ghost use Rattle.positions.specs.Positions.{units};
 ghost use Rattle.tables.specs.Model.{model_of};
-ghost use Rattle.trading.specs.Found.{weighs_on};
 
 use positions::{Position, account_of_key, is_future_key, series_of_key};
 use tables::{InUse, Tables};
@@ -21,15 +22,11 @@ pub(crate) fn delta_at(tables: &Tables, series: u64) -> i32
     tables.series.read(series).map_or(0, |terms| terms.value)
 }
 
-// What a position adds to the delta of the account: nothing where it is another's. A type for the bound would be made here
-// and taken apart in the sum.
-fn weighs(tables: &Tables, account: AccountNumber, key: u64, position: Position) -> i128
-    ensures value { result ≡ weighs_on (model_of tables.now) account.number key position }
+// What a position adds to the delta of its account. A type for the bound would be made here and taken apart in the sum.
+fn weighs(tables: &Tables, key: u64, position: Position) -> i128
+    ensures value { result ≡ weight (units position) (delta_at (model_of tables.now) (series_of_key key)) }
     ensures bound { unsigned_abs result ≤ 2 ^ 66 }
 {
-    if account_of_key(key) != account.number() {
-        return 0;
-    }
     i128::from(position.units()) * i128::from(delta_at(tables, series_of_key(key)))
 }
 
@@ -41,7 +38,10 @@ pub(crate) fn delta_of(book: &InUse, account: AccountNumber) -> i128
     let positions = &book.tables.positions;
     let mut sum: i128 = 0;
     for (key, position) in positions.keys().iter().zip(positions.contents()) {
-        sum += weighs(book.tables, account, *key, *position);
+        // Tested here and not in what is added, so that a position of another account costs no sum.
+        if account_of_key(*key) == account.number() {
+            sum += weighs(book.tables, *key, *position);
+        }
     }
     sum
 }

@@ -6,6 +6,8 @@ mod questions;
 mod rows;
 mod stretches;
 
+pub use stretches::Span;
+
 /// Rows whose keys ascend strictly: key `i` stands over content `i`. Two vectors, since contents are lent for writing
 /// without the keys, and a look-up reads keys alone.
 /// That the room stays is said of each change, as no invariant of a value can say it.

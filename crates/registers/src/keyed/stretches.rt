@@ -3,24 +3,49 @@ ghost use Rattle.std.specs.Prelude.{◌≡◌, ℕ, ◌-◌, ◌≤◌, List, �
 ghost use Rattle.std.specs.Borrow.{sem, Array, follows};
 ghost use Rattle.std.specs.List.{slice_get, zip, between};
 ghost use Rattle.std.specs.Option.{option_map};
-ghost use Rattle.registers.specs.Rows.{keys_in, contents_in, Rising};
+ghost use Rattle.registers.specs.Rows.{below, keys_in, contents_in, Rising};
 ghost use Rattle.registers.specs.Stretches.{front, stretch, rest, StretchAt, patched, rewritten};
 ghost use Rattle.registers.specs.Held.{rows_of, room_of, with_contents};
 ghost use Rattle.registers.specs.contracts.keyed.Register.{the_row};
 
 use super::Register;
-use std::ops::Range;
+use crate::cut::cut;
+
+// A type of its own, since the library's `Range` is not `Copy`.
+/// The places of a stretch: from the first to before the last.
+#[derive(Clone, Copy)]
+pub struct Span {
+    pub from: usize,
+    pub to: usize,
+}
 
 impl<T: Drop> Register<T> {
-    /// The places of the rows whose keys lie from `a` to below `b`.
-    pub fn stretch(&self, a: u64, b: u64) -> Range<usize>
-        ensures places { StretchAt a b (rows_of self.now) result.start result.end }
-        ensures left { take result.start (rows_of self.now) ++ drop result.end (rows_of self.now) ≡ front a (rows_of self.now) ++ rest a b (rows_of self.now) }
-        ensures held { between result.start result.end (contents_in (rows_of self.now)) ≡ contents_in (stretch a b (rows_of self.now)) }
-        ensures forward { result.start ≤ result.end }
-        ensures within { result.end ≤ length (rows_of self.now) }
+    // How many rows stand before the first whose key is at least `key`.
+    fn lower_bound(&self, key: u64) -> usize
+        ensures { result ≡ below key (rows_of self.now) }
     {
-        self.lower_bound(a)..self.lower_bound(a.max(b))
+        match self.find(key) {
+            Ok(i) => i,
+            Err(i) => i,
+        }
+    }
+
+    /// The places of the rows whose keys lie from `a` to below `b`.
+    pub fn stretch(&self, a: u64, b: u64) -> Span
+        ensures places { StretchAt a b (rows_of self.now) result.from result.to }
+        ensures left { take result.from (rows_of self.now) ++ drop result.to (rows_of self.now) ≡ front a (rows_of self.now) ++ rest a b (rows_of self.now) }
+        ensures held { between result.from result.to (contents_in (rows_of self.now)) ≡ contents_in (stretch a b (rows_of self.now)) }
+        ensures forward { result.from ≤ result.to }
+        ensures within { result.to ≤ length (rows_of self.now) }
+    {
+        let from = self.lower_bound(a);
+        if b <= a {
+            return Span { from, to: from };
+        }
+        Span {
+            from,
+            to: self.lower_bound(b),
+        }
     }
 
     /// The keys, row by row: each is greater than the one before it.
@@ -47,7 +72,8 @@ impl<T: Drop> Register<T> {
     pub fn stretch_contents(&self, a: u64, b: u64) -> &[T]
         ensures { result.now ≡ contents_in (stretch a b (rows_of self.now)) }
     {
-        &self.contents()[self.stretch(a, b)]
+        let Span { from, to } = self.stretch(a, b);
+        &self.contents()[from..to]
     }
 
     /// Lends the contents for writing, row by row: the register then holds what was written, under the same keys.
@@ -69,10 +95,10 @@ impl<T: Drop> Register<T> {
         ensures rows { rows_of self.new ≡ front a (rows_of self.old) ++ rest a b (rows_of self.old) }
         ensures room { room_of self.new ≡ room_of self.old }
     {
-        let Range { start, end } = self.stretch(a, b);
-        drop(self.keys.drain(start..end));
-        drop(self.contents.drain(start..end));
-        end - start
+        let Span { from, to } = self.stretch(a, b);
+        cut(&mut self.keys, from, to);
+        cut(&mut self.contents, from, to);
+        to - from
     }
 
     /// The key at the place.

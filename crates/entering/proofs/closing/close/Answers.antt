@@ -4,13 +4,13 @@ use Rattle.registers.specs.Held.{rows_of, room_of}
 use Rattle.registers.specs.Rows.{place_for}
 use Rattle.positions.specs.declared.position.Position.{Position}
 use Rattle.positions.specs.Keys.{line_key}
-use Rattle.positions.specs.Positions.{flat, closable, closed}
+use Rattle.positions.specs.Positions.{flat, closable}
 use Rattle.ledger.specs.Book.{position_at}
 use Rattle.ledger.specs.Calls.{close}
 use Rattle.ledger.specs.Judge as judging
 use Rattle.ledger.specs.Numbers.{key_of}
 use Rattle.ledger.specs.Post.{post}
-use Rattle.ledger.specs.Rows.{present, placed, revise}
+use Rattle.ledger.specs.Rows.{present, revise}
 use Rattle.ledger.proofs.Accepted.{ClosePassed, passed}
 use Rattle.ledger.proofs.PositionLaws.{closable_minis}
 use Rattle.ledger.proofs.RowLaws.{at_absent}
@@ -41,8 +41,4 @@ returns c =
     let f : ClosedAt t (key_of x) a k c.in_ok-left.left = e.1 in
     let there : place_for (line_key (key_of x) a) (rows_of t.positions) (room_of t.positions) ≡ true
     = ap (λ (b : Bool). b || ltb (length (rows_of t.positions)) (room_of t.positions)) (there t (key_of x) a k π.enough π.some) in
-    let q = c.place.ensures.rows in
-    let r = c.place.ensures.room in
-    let h : rows_of c.place.new.positions ≡ placed (line_key (key_of x) a) (closed k (position_at (model_of t) (key_of x) a)) (rows_of t.positions)
-    = grind (arith, common_steps, there, q, f.has_key, f.has_position) in
-    accepted _ t _ (judge_is t _ o.0 ∙ e.0) (grind (arith, common_steps, h, r))
+    accepted _ t _ (judge_is t _ o.0 ∙ e.0) (grind (arith, common_steps, there, f.has_key, f.has_position))

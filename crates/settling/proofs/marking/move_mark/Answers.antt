@@ -27,7 +27,7 @@ lent r s from to ks vs e d h =
 pub returns-in_err-test_gains : goal.returns-in_err-test_gains
 returns-in_err-test_gains c =
     let t = c.args.tables.now in
-    let rows = lent t.positions c.args.future c.stretch-start.result.start c.stretch-start.result.end _ _ c.keys.ensures.value c.contents.ensures.value c.stretch-start.ensures.places in
+    let rows = lent t.positions c.args.future c.stretch-from.result.from c.stretch-from.result.to _ _ c.keys.ensures.value c.contents.ensures.value c.stretch-from.ensures.places in
     let p = err_from_is_err_and c.from_residual.result c.from_residual.ensures.1 in
     let e = p.1 ∙ ap Err p.2 in
     record {
@@ -42,7 +42,7 @@ post_gains-requires c =
     let s = c.args.future in
     let cs = rows_of t.accounts in
     let ps = rows_of t.positions in
-    let rows = lent t.positions s c.stretch-start.result.start c.stretch-start.result.end _ _ c.keys.ensures.value c.contents.ensures.value c.stretch-start.ensures.places in
+    let rows = lent t.positions s c.stretch-from.result.from c.stretch-from.result.to _ _ c.keys.ensures.value c.contents.ensures.value c.stretch-from.ensures.places in
     let good : tested f (in_series s ps) cs ≡ Ok tt = ap (λ (rs : Rows Position). tested f rs cs) (sym rows) ∙ sym c.in_ok-test_gains.ensures in
     subst (λ (rs : Rows Position). Ready f rs cs) (sym rows) (ready f s 0 (in_series s ps) cs (in_order s ps (rising t.positions)) (all_in s ps) (all_afforded f (in_series s ps) cs good))
 
@@ -52,7 +52,7 @@ returns c =
     let f = gains c.args.gain in
     let s = c.args.future in
     let cs = rows_of t.accounts in
-    let rows = lent t.positions s c.stretch-start.result.start c.stretch-start.result.end _ _ c.keys.ensures.value c.contents.ensures.value c.stretch-start.ensures.places in
+    let rows = lent t.positions s c.stretch-from.result.from c.stretch-from.result.to _ _ c.keys.ensures.value c.contents.ensures.value c.stretch-from.ensures.places in
     let v : to_z w32 c.hundredths.result ≡ pos c.args.mark.hundredths = let m = c.args.mark.most in omega (arith, ints) in
     let paid = c.post_gains.ensures.rows ∙ ap (λ (rs : Rows Position). pay_all f rs cs) rows in
     let set = c.set_value.ensures.rows ∙ ap (λ (y : ℤ). change unlisted (valued y) s (rows_of t.series)) v in

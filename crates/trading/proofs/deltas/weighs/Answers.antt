@@ -1,5 +1,4 @@
-use Rattle.std.proofs.Common.{◌≡◌, ◌%◌, sym, ap, ◌∙◌, ap₂, arith, w32, SFits, rules}
-use Rattle.std.proofs.lemmas.Bool.{cond-true, eq-eqb}
+use Rattle.std.proofs.Common.{ap, ◌∙◌, ap₂, arith, w32, SFits, rules}
 use Rattle.ledger.specs.Book.{weight, delta_at}
 use Rattle.tables.specs.Model.{model_of}
 use Rattle.trading.proofs.Products.{weighed}
@@ -11,8 +10,7 @@ returns c =
     let d = c.delta_at.result in
     let fd : SFits w32 d = search rules in
     let w = weighed u d c.from.result c.from-2.result c.units.ensures.bound fd c.from.ensures c.from-2.ensures in
-    let own : c.args.account.number ≡ c.args.key % 65536 = omega arith in
     record {
-      value = w.0 ∙ ap₂ weight c.units.ensures.value (c.delta_at.ensures ∙ ap (delta_at (model_of c.args.tables.now)) c.series_of_key.ensures) ∙ sym (cond-true _ _ _ (eq-eqb _ _ own));
+      value = w.0 ∙ ap₂ weight c.units.ensures.value (c.delta_at.ensures ∙ ap (delta_at (model_of c.args.tables.now)) c.series_of_key.ensures);
       bound = rw w.0 (omega (arith, w.1));
     }

@@ -9,7 +9,7 @@ pub returns-clause-rows : goal.returns-clause-rows
 unfolding rows_of
 returns-clause-rows g c =
     let r = c.args.self.now in
-    let s = c.stretch-start.result in
-    let e = c.stretch-start.ensures in
-    let k : s.start ≤ length (keys_of r) = omega (arith, count_keys r, e.forward, e.within) in
-    ap₂ zip (c.drop.ensures.items ∙ c.drain.ensures.kept) (c.drop-2.ensures.items ∙ c.drain-2.ensures.kept) ∙ zipped_cut (keys_of r) (contents_of r) s.start s.end (level r) k ∙ e.left
+    let s = c.stretch-from.result in
+    let e = c.stretch-from.ensures in
+    let k : s.from ≤ length (keys_of r) = omega (arith, count_keys r, e.forward, e.within) in
+    ap₂ zip c.cut.ensures.items c.cut-2.ensures.items ∙ zipped_cut (keys_of r) (contents_of r) s.from s.to (level r) k ∙ e.left

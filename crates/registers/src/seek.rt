@@ -25,7 +25,7 @@ pub(crate) fn count_below(keys: &[u64], key: u64) -> usize
     base
 }
 
-// One less than a power of two, so that quarters leave no rest: so many in front and so many at the end are all of `size`.
+// One less than a power of two, so that quarters leave no rest; two windows, one in front and one at the end, cover all of `size`.
 fn window(size: usize) -> usize
     requires { size < 2 ^ 63 }
     ensures within { result ≤ size }

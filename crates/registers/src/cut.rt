@@ -1,7 +1,7 @@
 ghost use Rattle.std.specs.Prelude.{◌≡◌, ◌+◌, ◌-◌, ◌≤◌, ◌++◌, take, drop, vec_len, vec_capacity};
 
-// Takes the elements from the place `from` to the place `to` out, in one shift. The library's `drain` turns the elements that go
-// round as well, and takes them out one by one: at the end, where nothing has to be shifted, that costs as much as they are many.
+// Takes the elements from the place `from` to the place `to` out, in one shift. The library's `drain` also
+// reverses the elements that go and takes them out one by one, so that taking plain ones off the end costs the more the more they are.
 pub(crate) fn cut<T: Drop>(v: &mut Vec<T>, from: usize, to: usize)
     requires forward { from ≤ to }
     requires within { to ≤ vec_len v.old }

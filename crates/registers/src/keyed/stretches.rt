@@ -20,7 +20,7 @@ pub struct Span {
 }
 
 impl<T: Drop> Register<T> {
-    // How many rows stand before the first whose key is at least `key`. A match, as each arm says what it answers.
+    // How many rows stand before the first whose key is at least `key`. `unwrap_or_else`, with a closure that gives the place back, would be no plainer.
     fn lower_bound(&self, key: u64) -> usize
         ensures { result ≡ below key (rows_of self.now) }
     {
